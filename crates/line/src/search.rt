@@ -1,10 +1,8 @@
 // Looking a point up in the runs of a line, in steps that grow with the logarithm of their number.
 ghost use mathlib.Core.Path.{_≡_};
-ghost use Prim.Native.Nat.{ℕ, _+_, _<_, _≤_};
-ghost use lib.ListN.{length, getD};
+ghost use lib.ListN.{length};
 ghost use Rattle.std.specs.Options.{Cases as BySome};
-ghost use Rattle.line.specs.Line.{Joined, Line};
-ghost use Rattle.line.specs.Search.{Sought};
+ghost use Rattle.line.specs.Search.{Sought, Labelled};
 
 use crate::Point;
 use crate::Run;
@@ -31,7 +29,7 @@ pub fn seek<P: Point, L: Copy>(runs: &[Run<P, L>], p: &P) -> Option<usize>
 
 // The label of `p` in the line that the runs are; none where there are no runs.
 pub fn look_up<P: Point, L: Copy>(runs: &[Run<P, L>], p: &P) -> Option<L>
-    ensures { λ r. ⌜ BySome r (length (now (runs .entry)) ≡ 0) (λ l. (f : ℕ → L) → Line (P·Point .place) (P·Point .size) f (now (runs .entry)) → l ≡ f (P·Point .place (now (p .entry)))) ⌝ }
+    ensures { λ r. ⌜ BySome r (length (now (runs .entry)) ≡ 0) (Labelled (P·Point .place) (P·Point .size) (now (runs .entry)) (P·Point .place (now (p .entry)))) ⌝ }
 {
     let Some(at) = seek(runs, p) else {
         return None;

@@ -8,7 +8,8 @@ use lib.Dec.{eqb}
 use Rattle.line.specs.Line.{runs-needed}
 use Rattle.refusal.specs.declared.refusal.Refusal.{Refusal}
 use Rattle.refusal.specs.declared.refusal.Refusal.the-variants.{RangeReversed, RangeTaken, PlanFull, NothingElsewhere, FieldMalformed, TooManyNames}
-use Rattle.plan.specs.Declarations.{Declaration, names-of, network-of, number-in, well-formed}
+use Rattle.names.specs.Names.{number-in, well-formed}
+use Rattle.plan.specs.Declarations.{Declaration, names-of, network-of}
 
 -- no place from low to high has a network
 abbrev pub Free : (ℕ → ℕ) → ℕ → ℕ → Type 0

@@ -1,0 +1,5 @@
+pub mod Snoc
+pub mod Apart
+pub mod Taken
+pub mod Fits
+pub mod Makes

@@ -1,0 +1,44 @@
+-- An edit of a plan: what its checks promise, and what is left when it is made. No user of a plan meets these.
+use mathlib.Core.Path.{_≡_}
+use mathlib.Core.List.{List, [], _∷_, _++_}
+use mathlib.Core.Bool.{cond}
+use Prim.Native.Nat.{ℕ, _+_, _≤_, _<_}
+use lib.Dec.{leb}
+use lib.ListN.{length, take, drop}
+use denote.Ref.{now}
+use Rattle.std.specs.shelf.Lists.{All}
+use Rattle.line.specs.Line.{Line, over}
+use Rattle.splice.specs.Changes.{changed, count-after, Apt}
+use Rattle.names.specs.Names.{number-in}
+use Rattle.names.specs.Texts.{texts}
+use Rattle.plan.specs.declared.plan.Plan.{Plan}
+use Rattle.plan.specs.declared.plan.Edit.{Edit}
+use Rattle.plan.specs.Declarations.{Declaration, names-of, network-of}
+use Rattle.plan.specs.Accepted.{Sane, Free, Remains}
+use Rattle.plan.specs.Made.{Blank}
+
+-- the edit can be made in any plan like p
+pub record Safe {A : Type 0} (p : Plan A) (name : List ℕ) (e : Edit A) : Type 0 where
+  pub some : 0 < p .count
+  pub fits : p .count ≤ length (now (p .rows))
+  pub apt : Apt (p .count) (e .change)
+  pub room : count-after (e .change) (p .count) ≤ length (now (p .rows))
+  pub short : length name ≤ 12
+  pub few : e .number ≤ 24
+  pub next : e .number ≤ length (texts (p .names)) + 1
+
+-- the edit is that of the declaration d in a plan that ds made
+pub record Judged {A : Type 0} (place : A → ℕ) (size : ℕ) (ds : List Declaration) (p : Plan A) (d : Declaration) (e : Edit A) : Type 0 where
+  pub sane : Sane ds d
+  pub number : e .number ≡ number-in (names-of ds) (d .name)
+  pub free : Free (network-of ds) (d .low) (d .high)
+  pub remains : Remains size (network-of ds) (d .low) (d .high)
+  pub line : Line place size (over (network-of ds) (d .low) (d .high) (e .number)) (changed (e .change) (take (p .count) (now (p .rows))))
+
+-- the plan q is the plan p with the edit made
+pub record Entered {A : Type 0} (place : A → ℕ) (p q : Plan A) (name : List ℕ) (e : Edit A) : Type 0 where
+  pub count : q .count ≡ count-after (e .change) (p .count)
+  pub long : length (now (q .rows)) ≡ length (now (p .rows))
+  pub rows : take (q .count) (now (q .rows)) ≡ changed (e .change) (take (p .count) (now (p .rows)))
+  pub blank : All (Blank place) (drop (p .count) (now (p .rows))) → All (Blank place) (drop (q .count) (now (q .rows)))
+  pub names : texts (q .names) ≡ cond (leb (e .number) (length (texts (p .names)))) (texts (p .names)) (texts (p .names) ++ name ∷ [])

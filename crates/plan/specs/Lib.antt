@@ -1,0 +1,5 @@
+pub mod Declarations
+pub mod Accepted
+pub mod Made
+pub mod Fit
+pub mod Edits
