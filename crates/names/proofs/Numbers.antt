@@ -56,3 +56,11 @@ well-rest text a b c d =
     let q = le-leb (length text) 12 b in
     simp (p, q, c, d)
 
+short-in : (xs : List Name) (i : ℕ) → length (getD (map text-of xs) i []) ≤ 12
+short-in [] i = omega arith
+short-in (x ∷ xs) zero = let a = x .fits in let b = length-take (x .len) (x .bytes) in omega arith
+short-in (x ∷ xs) (suc i) = short-in xs i
+
+-- a name has at most 12 bytes
+pub short : (ns : Names) (i : ℕ) → length (getD (texts ns) i []) ≤ 12
+short ns i = short-in (take (ns .count) (ns .list)) i

@@ -15,6 +15,7 @@ ghost use Rattle.plan.specs.Made.{Made, Shut};
 use line::Point;
 use line::Run;
 use line::look_up;
+use names::Names;
 use refusal::Refusal;
 use crate::Plan;
 
@@ -42,6 +43,13 @@ impl<'a, A: Point> Plan<'a, A> {
             return &self.rows[0..0];
         }
         &self.rows[0..self.count]
+    }
+
+    // The names, by which the numbers go.
+    pub fn names(&self) -> &Names
+        ensures { λ r. ⌜ now r ≡ now (self .entry) .names ⌝ }
+    {
+        &self.names
     }
 
     // How many networks have a name; none where the plan is shut.

@@ -1,0 +1,8 @@
+// Plan texts read: rows into declarations, and a text into a plan.
+ghost use mathlib.Core.Path.{_≡_};
+
+pub fn nothing() -> u8
+    ensures { λ r. ⌜ r ≡ 0 ⌝ }
+{
+    0
+}

@@ -1,0 +1,4 @@
+pub mod Putting
+pub mod Cutting
+pub mod Walking
+pub mod Decimals
