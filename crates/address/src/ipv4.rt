@@ -94,7 +94,7 @@ pub impl Address for Ipv4 as Ipv4Address {
     }
 
     fn write_text(&self, out: &mut [u8], at: usize) -> usize {
-        let value = self.value() as usize;
+        let value = self.value as usize;
         let b = write_dotted(value / 16777216, out, at);
         let c = write_dotted(value / 65536 % 256, out, b);
         let d = write_dotted(value / 256 % 256, out, c);

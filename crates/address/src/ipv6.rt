@@ -115,8 +115,8 @@ pub impl Address for Ipv6 as Ipv6Address {
     }
 
     fn write_text(&self, out: &mut [u8], at: usize) -> usize {
-        let end = write_four(self.high(), out, at);
+        let end = write_four(self.high, out, at);
         let next = put_byte(out, end, b':');
-        write_four(self.low(), out, next)
+        write_four(self.low, out, next)
     }
 }

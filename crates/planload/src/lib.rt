@@ -1,8 +1,5 @@
-// Plan texts read: rows into declarations, and a text into a plan.
-ghost use mathlib.Core.Path.{_≡_};
+// Plan texts read: a row into a declaration, and a text into a plan.
+mod load;
+mod row;
 
-pub fn nothing() -> u8
-    ensures { λ r. ⌜ r ≡ 0 ⌝ }
-{
-    0
-}
+pub use load::load_plan;

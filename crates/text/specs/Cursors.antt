@@ -28,6 +28,7 @@ pub record NextRow (before : Rows) (row : Row) (after : Rows) : Type 0 where
   pub line : row .line ≡ before .line + 1
   pub counted : after .line ≡ row .line
   pub text : after .text ≡ before .text
+  pub next : after .at ≡ row .start + length (now (row .bytes)) + 1
   pub less : bytes-left after < bytes-left before
 
 -- the fields that the cursor has yet to hand out: past the end of its row there are none

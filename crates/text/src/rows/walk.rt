@@ -13,6 +13,7 @@ impl<'t> Rows<'t> {
     pub fn new(text: &'t [u8]) -> Rows<'t>
         ensures left { λ r. ⌜ rows-left r ≡ rows (now (text .entry)) ⌝ }
         ensures line { λ r. ⌜ r .line ≡ 0 ⌝ }
+        ensures start { λ r. ⌜ r .at ≡ 0 ⌝ }
         ensures text { λ r. ⌜ now (r .text) ≡ now (text .entry) ⌝ }
     {
         Rows {

@@ -2,42 +2,36 @@
 use native.Mathlib.Omega.{arith}
 use mathlib.Core.Path.{_≡_, ap, _∙_}
 use mathlib.Core.List.{List, [], _∷_, _++_, append-assoc}
-use Prim.Native.Nat.{ℕ, _+_, _≤_, _/_, _%_}
+use Prim.Native.Nat.{ℕ, _+_, _/_, _%_}
 use lib.ListN.{length}
 use Rattle.std.specs.Written.{decimal}
 use Rattle.std.proofs.shelf.Lists.{length-append}
 use Rattle.text.specs.Buffers.{put}
-use Rattle.address.specs.Texts.{text4}
 use Rattle.text.proofs.Putting.{put-then}
+use Rattle.address.specs.Texts.{text4}
 use Rattle.address.proofs.Dots.{long4}
 use Rattle.address.proofs.ipv4.Ipv4Address.write_text.Needs as need
 
-room : (v w : ℕ) (at n : ℕ) → v ≡ w → at + length (text4 w) ≤ n → at + (length (decimal (v / 16777216)) + (length (decimal (v / 65536 % 256)) + (length (decimal (v / 256 % 256)) + (length (decimal (v % 256)) + 3)))) ≤ n
-room v w at n e h = let l = long4 v in let s = ap (λ (x : ℕ). length (text4 x)) e in omega arith
-
 pub write-dotted-b-requires : need.write-dotted-b-requires
-write-dotted-b-requires c κs = let r = room (c .value-value .result) _ (c .args .at) _ (c .value-value .ensures) (c .pre) in omega arith
+write-dotted-b-requires c κs = omega (arith, long4 (c .args .self .now .value))
 
 pub write-dotted-c-requires : need.write-dotted-c-requires
-write-dotted-c-requires c κs = let r = room (c .value-value .result) _ (c .args .at) _ (c .value-value .ensures) (c .pre) in omega (arith, c .write-dotted-b .ensures .end, c .write-dotted-b .kept .out)
+write-dotted-c-requires c κs = omega (arith, long4 (c .args .self .now .value), c .write-dotted-b .ensures .end, c .write-dotted-b .kept .out)
 
 pub write-dotted-d-requires : need.write-dotted-d-requires
 write-dotted-d-requires c κs =
-    let r = room (c .value-value .result) _ (c .args .at) _ (c .value-value .ensures) (c .pre) in
-    omega (arith, c .write-dotted-b .ensures .end, c .write-dotted-b .kept .out, c .write-dotted-c .ensures .end, c .write-dotted-c .kept .out)
+    omega (arith, long4 (c .args .self .now .value), c .write-dotted-b .ensures .end, c .write-dotted-b .kept .out, c .write-dotted-c .ensures .end, c .write-dotted-c .kept .out)
 
 pub write-number-requires : need.write-number-requires
 write-number-requires c κs =
-    let r = room (c .value-value .result) _ (c .args .at) _ (c .value-value .ensures) (c .pre) in
-    omega (arith, c .write-dotted-b .ensures .end, c .write-dotted-b .kept .out, c .write-dotted-c .ensures .end, c .write-dotted-c .kept .out, c .write-dotted-d .ensures .end, c .write-dotted-d .kept .out)
+    omega (arith, long4 (c .args .self .now .value), c .write-dotted-b .ensures .end, c .write-dotted-b .kept .out, c .write-dotted-c .ensures .end, c .write-dotted-c .kept .out, c .write-dotted-d .ensures .end, c .write-dotted-d .kept .out)
 
 pub returns : need.returns
 returns c =
-    let v = c .value-value .result in
+    let v = c .args .self .now .value in
     let out = c .args .out .now in
     let at = c .args .at in
-    let r = room v _ at _ (c .value-value .ensures) (c .pre) in
-    let long = ap (λ (x : ℕ). length (text4 x)) (c .value-value .ensures) in
+    let room = c .pre in
     let sum = long4 v in
     let pa : List ℕ = decimal (v / 16777216) ++ (46 ∷ []) in
     let pb : List ℕ = decimal (v / 65536 % 256) ++ (46 ∷ []) in
@@ -56,7 +50,4 @@ returns c =
     let s3 = put-then out (c .write-dotted-c .last .out) (c .write-dotted-d .last .out) at (c .write-dotted-c .result) (pa ++ pb) pc s2 (omega arith) (c .write-dotted-d .ensures .wrote) (omega arith) in
     let s4 = put-then out (c .write-dotted-d .last .out) (c .write-number .last .out) at (c .write-dotted-d .result) ((pa ++ pb) ++ pc) pd s3 (omega arith) (c .write-number .ensures .wrote) (omega arith) in
     let flat : ((pa ++ pb) ++ pc) ++ pd ≡ text4 v = simp append-assoc in
-    record {
-      end = omega arith;
-      wrote = s4 ∙ (ap (put out at) flat ∙ ap (λ (x : ℕ). put out at (text4 x)) (c .value-value .ensures));
-    }
+    record { end = omega arith; wrote = s4 ∙ ap (put out at) flat }

@@ -5,4 +5,4 @@ use Rattle.text.proofs.rows.Rows.new.Needs as need
 
 pub returns : need.returns
 unfolding rows-left
-returns c = record { left = refl; line = refl; text = refl }
+returns c = record { left = refl; line = refl; start = refl; text = refl }

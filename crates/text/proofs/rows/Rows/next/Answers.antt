@@ -36,5 +36,6 @@ returns c =
       line = refl;
       counted = refl;
       text = refl;
+      next = refl;
       less = omega arith;
     }
