@@ -3,3 +3,4 @@ pub mod Apart
 pub mod Taken
 pub mod Fits
 pub mod Makes
+pub mod Checks

@@ -1,12 +1,16 @@
 -- An edit of a plan: what its checks promise, and what is left when it is made. No user of a plan meets these.
 use mathlib.Core.Path.{_≡_}
 use mathlib.Core.List.{List, [], _∷_, _++_}
-use mathlib.Core.Bool.{cond}
+use mathlib.Core.Bool.{Bool, cond}
 use Prim.Native.Nat.{ℕ, _+_, _≤_, _<_}
 use lib.Dec.{leb}
 use lib.ListN.{length, take, drop}
 use denote.Ref.{now}
 use Rattle.std.specs.shelf.Lists.{All}
+use Rattle.std.specs.declared.option.Option.{Option}
+use Rattle.std.specs.declared.option.Option.the-variants.{Some, None}
+use Rattle.refusal.specs.declared.refusal.Refusal.{Refusal}
+use Rattle.refusal.specs.declared.refusal.Refusal.the-variants.{RangeReversed, FieldMalformed, TooManyNames}
 use Rattle.line.specs.Line.{Line, over}
 use Rattle.splice.specs.Changes.{changed, count-after, Apt}
 use Rattle.names.specs.Names.{number-in}
@@ -16,6 +20,10 @@ use Rattle.plan.specs.declared.plan.Edit.{Edit}
 use Rattle.plan.specs.Declarations.{Declaration, names-of, network-of}
 use Rattle.plan.specs.Accepted.{Sane, Free, Remains}
 use Rattle.plan.specs.Made.{Blank}
+
+-- the first of three checks that fails: the name is well formed, the range is not reversed, the names are not too many
+abbrev pub first-cause : Bool → Bool → Bool → Option Refusal
+first-cause formed reversed crowded = cond formed (cond reversed (Some RangeReversed) (cond crowded (Some TooManyNames) None)) (Some FieldMalformed)
 
 -- the edit can be made in any plan like p
 pub record Safe {A : Type 0} (p : Plan A) (name : List ℕ) (e : Edit A) : Type 0 where

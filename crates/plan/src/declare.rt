@@ -12,7 +12,7 @@ ghost use Rattle.plan.specs.Declarations.{Declaration};
 ghost use Rattle.plan.specs.Accepted.{Refused};
 ghost use Rattle.splice.specs.Changes.{changed, count-after, Apt};
 ghost use Rattle.plan.specs.Made.{Blank, Made, Shut, Declared, declaration};
-ghost use Rattle.plan.specs.Edits.{Safe, Judged, Entered};
+ghost use Rattle.plan.specs.Edits.{Safe, Judged, Entered, first-cause};
 
 use line::Point;
 use line::Run;
@@ -24,6 +24,22 @@ use splice::apply;
 use crate::Plan;
 use crate::fit::fit;
 use crate::plan::Edit;
+
+// The first of the checks before the addresses that fails: of the name, of the range's order, of the number of names.
+fn first_cause(formed: bool, reversed: bool, crowded: bool) -> Option<Refusal>
+    ensures { λ r. ⌜ r ≡ first-cause formed reversed crowded ⌝ }
+{
+    if !formed {
+        return Some(Refusal::FieldMalformed);
+    }
+    if reversed {
+        return Some(Refusal::RangeReversed);
+    }
+    if crowded {
+        return Some(Refusal::TooManyNames);
+    }
+    None
+}
 
 // Makes a change in the first `old` rows, and says how many they are then. Only the rows that it frees are blanked: those after them are blank already.
 fn change_rows<A: Point>(rows: &mut [Run<A, u8>], old: usize, change: &Change<A, u8>) -> usize
@@ -53,15 +69,9 @@ impl<'a, A: Point> Plan<'a, A> {
         if runs.is_empty() {
             return Err(Refusal::Shut);
         }
-        if !is_well_formed(name) {
-            return Err(Refusal::FieldMalformed);
-        }
-        if high.before(&low) {
-            return Err(Refusal::RangeReversed);
-        }
         let number = self.names.number(name);
-        if number > 24 {
-            return Err(Refusal::TooManyNames);
+        if let Some(cause) = first_cause(is_well_formed(name), high.before(&low), number > 24) {
+            return Err(cause);
         }
         match fit(runs, self.rows.len(), low, high, number) {
             Ok(change) => Ok(Edit { number, change }),
