@@ -34,6 +34,7 @@ abbrev pub net-said : {A : Type 0} → (A → ℕ) → ℕ → List ℕ → List
 net-said place n name [] = []
 net-said place n name (r ∷ runs) = cond (eqb (r .label) n) (said-of place name r ∷ net-said place n name runs) (net-said place n name runs)
 
+-- those of the networks with these names, whose numbers go up from n
 abbrev pub nets-said : {A : Type 0} → (A → ℕ) → ℕ → List (List ℕ) → List (Run A ℕ) → List Declaration
 nets-said place n [] runs = []
 nets-said place n (name ∷ names) runs = net-said place n name runs ++ nets-said place (n + 1) names runs

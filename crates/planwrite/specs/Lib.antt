@@ -1,0 +1,4 @@
+pub mod Written
+pub mod Same
+pub mod Writes
+pub mod Back
