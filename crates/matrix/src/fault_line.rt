@@ -5,9 +5,9 @@ ghost use Prim.Native.Nat.{_+_, _<_, _≤_};
 ghost use lib.ListN.{length};
 ghost use Rattle.std.specs.Results.{Cases};
 ghost use Rattle.std.specs.Written.{decimal};
-ghost use Rattle.refusal.specs.declared.refusal.Refusal.the-variants.{BufferTooShort};
 ghost use Rattle.text.specs.Buffers.{put};
-ghost use Rattle.matrix.specs.Lines.{word-of, fault-line, Wrote, Lacked};
+ghost use Rattle.planwrite.specs.Writes.{Wrote, Lacks-room};
+ghost use Rattle.matrix.specs.Lines.{word-of, fault-line};
 
 use refusal::Fault;
 use refusal::Refusal;
@@ -62,7 +62,7 @@ fn write_line(kind: TextKind, fault: &Fault, out: &mut [u8]) -> usize
 
 // Writes `fault,TEXT,LAYER,CAUSE,LINE,FIELD` and byte 10, and says how many bytes they are.
 pub fn write_fault(kind: TextKind, fault: &Fault, out: &mut [u8]) -> Result<usize, Refusal>
-    ensures { λ r. ⌜ Cases r (Wrote (fault-line kind (now (fault .entry))) (now (out .entry)) (now (out .exit))) (Lacked (fault-line kind (now (fault .entry))) (now (out .entry)) (now (out .exit))) ⌝ }
+    ensures { λ r. ⌜ Cases r (Wrote (fault-line kind (now (fault .entry))) (now (out .entry)) (now (out .exit))) (Lacks-room (fault-line kind (now (fault .entry))) (now (out .entry)) (now (out .exit))) ⌝ }
 {
     let mut scratch = [0u8; 96];
     let end = write_line(kind, fault, &mut scratch);

@@ -1,6 +1,8 @@
 // The work of a program: read the text, work out the answer, print it.
 use address::Address;
 use line::Run;
+use crate::Answer;
+use crate::plan_answer;
 use std::alloc::AllocError;
 use std::fs::File;
 use std::io;
@@ -49,4 +51,26 @@ fn plan_rows<A: Address>(rt: &LibcRuntime) -> Result<Vec<Run<A, u8>>, AllocError
         rows.push(Run { low: first, high: first, label: 0 })?;
     }
     Ok(rows)
+}
+
+// Reads `plan.txt`, prints the plan as it was understood or the one fault line, and fails after a fault.
+pub fn print_plan<A: Address>(rt: &LibcRuntime) -> Result<(), Failure> {
+    let text = read_file(rt, "plan.txt")?;
+    let mut rows = plan_rows::<A>(rt)?;
+    let mut out = vec![in rt.alloc(); 0u8; OUTPUT]?;
+    match plan_answer(rows.as_mut_slice(), text.as_slice(), out.as_mut_slice()) {
+        Ok(Answer::Plan(count)) => print_bytes(rt, out.as_slice(), count),
+        Ok(Answer::Fault(count)) => {
+            print_bytes(rt, out.as_slice(), count)?;
+            Err(Failure::Fault)
+        }
+        Err(_) => Err(Failure::Machine),
+    }
+}
+
+// Prints the first bytes of a buffer.
+fn print_bytes(rt: &LibcRuntime, bytes: &[u8], count: usize) -> Result<(), Failure> {
+    let count = count.min(bytes.len());
+    rt.stdout().write_all(&bytes[0..count])?;
+    Ok(())
 }
