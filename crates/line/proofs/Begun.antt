@@ -21,7 +21,7 @@ module _ {P L : Type 0} (place : P → ℕ) (f : ℕ → L) where
   begun-none at e = record { joined = sym e; painted = tt; differ = tt; turns = λ h. absurd (omega arith) }
 
   module _ (size : ℕ) (rows : List (Run P L)) (n : ℕ) (r : Run P L) (lt : n < length rows)
-    (begun : Begun place f (place (r .low)) (take n rows)) (s : Stretch size f (r .label) (place (r .low)) (place (r .high))) where
+      (begun : Begun place f (place (r .low)) (take n rows)) (s : Stretch size f (r .label) (place (r .low)) (place (r .high))) where
     written : take (n + 1) (set rows n r) ≡ take n rows ++ r ∷ []
     written = take-more-set rows n r lt
 

@@ -67,7 +67,7 @@ module _ {L : Type 0} (alike : L → L → Bool) (tells : (a b : L) → Decides 
 
   -- a stretch is one run: one change more where another follows it, and none after the last
   pub counted-more : (size : ℕ) (l : L) (from to after : ℕ) → Stretch size f l from to → after ≡ to + 1 → after < size
-    → changes alike f (after + 1) ≡ changes alike f (from + 1) + 1
+      → changes alike f (after + 1) ≡ changes alike f (from + 1) + 1
   counted-more size l from to after s e lt =
       let le = s .keeps .ordered in
       let last : f to ≡ l = s .keeps .labelled to (omega arith) (omega arith) in
@@ -79,7 +79,7 @@ module _ {L : Type 0} (alike : L → L → Bool) (tells : (a b : L) → Decides 
 
   module _ {P : Type 0} (place : P → ℕ) (size : ℕ) where
     at-least : (from : ℕ) (rows : List (Run P L)) → Joined place size from rows → Painted place f rows → from < size
-      → changes alike f size + 1 ≤ changes alike f (from + 1) + length rows
+        → changes alike f size + 1 ≤ changes alike f (from + 1) + length rows
     at-least from [] j p lt = absurd (omega arith)
     at-least from (r ∷ []) j p lt =
         let e = changes-kept (r .label) _ _ (p .0) in
@@ -95,7 +95,7 @@ module _ {L : Type 0} (alike : L → L → Bool) (tells : (a b : L) → Decides 
         omega arith
 
     at-most : (from : ℕ) (rows : List (Run P L)) → Joined place size from rows → Painted place f rows → Differ rows → from < size
-      → changes alike f (from + 1) + length rows ≤ changes alike f size + 1
+        → changes alike f (from + 1) + length rows ≤ changes alike f size + 1
     at-most from [] j p d lt = absurd (omega arith)
     at-most from (r ∷ []) j p d lt =
         let e = changes-kept (r .label) _ _ (p .0) in
@@ -126,5 +126,5 @@ module _ {L : Type 0} (alike : L → L → Bool) (tells : (a b : L) → Decides 
 
     -- the line has the fewest
     pub line-fewest : (rows others : List (Run P L)) → 0 < size → Line place size f rows → Joined place size 0 others → Painted place f others
-      → length rows ≤ length others
+        → length rows ≤ length others
     line-fewest rows others pos l j p = let a = needed-line rows pos l in let b = needed-least others pos j p in omega arith

@@ -5,7 +5,6 @@ ghost use lib.ListN.{length, replicate};
 ghost use denote.Ref.{now};
 ghost use Rattle.std.specs.Options.{Cases as BySome};
 ghost use Rattle.line.specs.Line.{Keeps, Stretch, runs-needed, Drawn, Listed};
-
 use crate::Label;
 use crate::Labelling;
 use crate::Point;
@@ -57,7 +56,11 @@ pub fn draw<F: Labelling>(rows: &mut [Run<F::Spot, F::Tag>], labelling: &F) -> u
     let mut count = 0;
     while count < rows.len() {
         let (label, high) = stretch(labelling, &from);
-        rows[count] = Run { low: from, high, label };
+        rows[count] = Run {
+            low: from,
+            high,
+            label,
+        };
         count += 1;
         match high.next() {
             Some(after) => from = after,
@@ -77,7 +80,11 @@ pub fn fill<T: Copy>(rows: &mut [T], value: T)
 }
 
 // Makes the rows the line of the labelling and then blank rows, and says how many runs the line has; where they are too few, touches none.
-pub fn redraw<F: Labelling>(rows: &mut [Run<F::Spot, F::Tag>], labelling: &F, blank: Run<F::Spot, F::Tag>) -> Option<usize>
+pub fn redraw<F: Labelling>(
+    rows: &mut [Run<F::Spot, F::Tag>],
+    labelling: &F,
+    blank: Run<F::Spot, F::Tag>,
+) -> Option<usize>
     requires { ⌜ F·Labelling .ready (now labelling) ⌝ }
     ensures { λ r. ⌜ BySome r ((length (now (rows .entry)) < runs-needed (Tag·Label .alike) (Spot·Point .size) (F·Labelling .label (now (labelling .entry)))) × (now (rows .exit) ≡ now (rows .entry))) (λ n. (n ≡ runs-needed (Tag·Label .alike) (Spot·Point .size) (F·Labelling .label (now (labelling .entry)))) × Listed (Spot·Point .place) (Spot·Point .size) blank (F·Labelling .label (now (labelling .entry))) n (now (rows .exit))) ⌝ }
 {

@@ -3,13 +3,13 @@ ghost use mathlib.Core.Path.{_≡_};
 ghost use Prim.Native.Nat.{ℕ};
 ghost use denote.Ref.{now};
 ghost use Rattle.line.specs.Line.{Keeps};
-
 use crate::Label;
 use crate::Point;
 
 // What gives every place a label. `label` is the labelling, and `ready` says that it can be told.
 pub trait Labelling {
     type Spot: Point;
+
     type Tag: Label;
 
     ghost label: { Self → ℕ → Self·Tag };

@@ -3,7 +3,6 @@ ghost use mathlib.Core.List.{List};
 ghost use Prim.Native.Nat.{ℕ};
 ghost use Rattle.line.specs.Laws.{One-line, Fewest-runs};
 ghost use Rattle.line.specs.declared.run.Run.{Run};
-
 use crate::Label;
 use crate::Point;
 
@@ -11,5 +10,4 @@ use crate::Point;
 pub fn line_laws<P: Point, L: Label>(_point: &P, _label: &L)
     ensures one { λ _. ⌜ ((f g : ℕ → L) (runs others : List (Run P L)) → One-line (P·Point .place) (P·Point .size) f g runs others) ⌝ }
     ensures fewest { λ _. ⌜ ((f : ℕ → L) (runs others : List (Run P L)) → Fewest-runs (P·Point .place) (P·Point .size) (L·Label .alike) f runs others) ⌝ }
-{
-}
+{}

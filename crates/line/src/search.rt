@@ -3,7 +3,6 @@ ghost use mathlib.Core.Path.{_≡_};
 ghost use lib.ListN.{length};
 ghost use Rattle.std.specs.Options.{Cases as BySome};
 ghost use Rattle.line.specs.Search.{Sought, Labelled};
-
 use crate::Point;
 use crate::Run;
 

@@ -31,13 +31,13 @@ some-none : (f : Fault) (o : Option Fault) → o ≡ Some f → o ≡ None → �
 some-none f o a b = let z : _≡_ {A = ℕ} 0 1 = cc in omega arith
 
 module _ {A T : Type 0} (text : A → List ℕ) (place : A → ℕ) (size rows : ℕ) (bytes : List ℕ) (r : Result T Fault) (p q : Plan A)
-  (made : size-fits rows ≡ true → Made place size [] p)
-  (shut : size-fits rows ≡ false → Shut p)
-  (long : length (now (p .rows)) ≡ rows)
-  (load-shut : Shut p → r ≡ Err (fault cause.Shut 0 0))
-  (load-over : 0 < p .count → 16384 < length bytes → r ≡ Err (fault cause.TextTooLong 0 0))
-  (loads : (ds : List Declaration) → Made place size ds p → length bytes ≤ 16384 → Outcome text place size ds bytes r q)
-  (load-long : length (now (q .rows)) ≡ length (now (p .rows))) where
+    (made : size-fits rows ≡ true → Made place size [] p)
+    (shut : size-fits rows ≡ false → Shut p)
+    (long : length (now (p .rows)) ≡ rows)
+    (load-shut : Shut p → r ≡ Err (fault cause.Shut 0 0))
+    (load-over : 0 < p .count → 16384 < length bytes → r ≡ Err (fault cause.TextTooLong 0 0))
+    (loads : (ds : List Declaration) → Made place size ds p → length bytes ≤ 16384 → Outcome text place size ds bytes r q)
+    (load-long : length (now (q .rows)) ≡ length (now (p .rows))) where
   faulted : (f : Fault) → r ≡ Err f → Ends text place size rows bytes [] (Some f) → Ended text place size rows bytes r q
   faulted f is ends = record {
     made = [];
@@ -48,14 +48,15 @@ module _ {A T : Type 0} (text : A → List ℕ) (place : A → ℕ) (size rows :
   by : (b : Bool) → size-fits rows ≡ b → Ended text place size rows bytes r q
   by false h = faulted (fault cause.Shut 0 0) (load-shut (shut h)) (Ends.shut h)
   by true h = elim (cases-lt 16384 (length bytes)) [
-      inl lt ↦ faulted (fault cause.TextTooLong 0 0) (load-over (made h .ready) lt) (Ends.long h lt)
+    | inl lt ↦ faulted (fault cause.TextTooLong 0 0) (load-over (made h .ready) lt) (Ends.long h lt)
     | inr le ↦
         let o = loads [] (made h) le in
         record {
           made = o .made;
           ends = Ends.read (o .made) (fault-in r) h le (subst (λ (n : ℕ). Loaded text place size n [] bytes (o .made) (fault-in r)) (load-long ∙ long) (o .loads));
           plan = λ _. o .plan;
-        } ]
+        }
+  ]
 
   pub ended : Ended text place size rows bytes r q
   ended = by (size-fits rows) refl

@@ -26,10 +26,10 @@ digits-few n h = length-decimal-le 20 n (omega arith) (omega arith) h
 
 -- seven texts written one after the other
 pub seven : (o o1 o2 o3 o4 o5 o6 o7 : List ℕ) (a b c d e f : ℕ) (x1 x2 x3 x4 x5 x6 x7 : List ℕ)
-  → length x1 + (length x2 + (length x3 + (length x4 + (length x5 + (length x6 + length x7))))) ≤ length o
-  → o1 ≡ put o 0 x1 → a ≡ 0 + length x1 → o2 ≡ put o1 a x2 → b ≡ a + length x2 → o3 ≡ put o2 b x3 → c ≡ b + length x3
-  → o4 ≡ put o3 c x4 → d ≡ c + length x4 → o5 ≡ put o4 d x5 → e ≡ d + length x5 → o6 ≡ put o5 e x6 → f ≡ e + length x6 → o7 ≡ put o6 f x7
-  → o7 ≡ put o 0 (x1 ++ (x2 ++ (x3 ++ (x4 ++ (x5 ++ (x6 ++ x7))))))
+    → length x1 + (length x2 + (length x3 + (length x4 + (length x5 + (length x6 + length x7))))) ≤ length o
+    → o1 ≡ put o 0 x1 → a ≡ 0 + length x1 → o2 ≡ put o1 a x2 → b ≡ a + length x2 → o3 ≡ put o2 b x3 → c ≡ b + length x3
+    → o4 ≡ put o3 c x4 → d ≡ c + length x4 → o5 ≡ put o4 d x5 → e ≡ d + length x5 → o6 ≡ put o5 e x6 → f ≡ e + length x6 → o7 ≡ put o6 f x7
+    → o7 ≡ put o 0 (x1 ++ (x2 ++ (x3 ++ (x4 ++ (x5 ++ (x6 ++ x7))))))
 seven o o1 o2 o3 o4 o5 o6 o7 a b c d e f x1 x2 x3 x4 x5 x6 x7 fits p1 ea p2 eb p3 ec p4 ed p5 ee p6 ef p7 =
     let y2 : List ℕ = x1 ++ x2 in
     let y3 : List ℕ = y2 ++ x3 in
@@ -51,12 +51,12 @@ seven o o1 o2 o3 o4 o5 o6 o7 a b c d e f x1 x2 x3 x4 x5 x6 x7 fits p1 ea p2 eb p
     q7 ∙ ap (put o 0) flat
 
 pub seven-length : (x1 x2 x3 x4 x5 x6 x7 : List ℕ)
-  → length (x1 ++ (x2 ++ (x3 ++ (x4 ++ (x5 ++ (x6 ++ x7)))))) ≡ length x1 + (length x2 + (length x3 + (length x4 + (length x5 + (length x6 + length x7)))))
+    → length (x1 ++ (x2 ++ (x3 ++ (x4 ++ (x5 ++ (x6 ++ x7)))))) ≡ length x1 + (length x2 + (length x3 + (length x4 + (length x5 + (length x6 + length x7)))))
 seven-length x1 x2 x3 x4 x5 x6 x7 = simp length-append (omega arith)
 
 -- the parts are those of the fault line
 pub line-is : (kind : TextKind) (f : Fault) (word : List ℕ) (a b c d : ℕ) → word ≡ word-of kind → a ≡ f .layer → b ≡ number (f .cause) → c ≡ f .line → d ≡ f .field
-  → codes "fault," ++ (word ++ ((44 ∷ decimal a) ++ ((44 ∷ decimal b) ++ ((44 ∷ decimal c) ++ ((44 ∷ decimal d) ++ (10 ∷ [])))))) ≡ fault-line kind f
+    → codes "fault," ++ (word ++ ((44 ∷ decimal a) ++ ((44 ∷ decimal b) ++ ((44 ∷ decimal c) ++ ((44 ∷ decimal d) ++ (10 ∷ [])))))) ≡ fault-line kind f
 unfolding fault-line
 line-is kind f word a b c d w p q r s = λ i. codes "fault," ++ (w i ++ ((44 ∷ decimal (p i)) ++ ((44 ∷ decimal (q i)) ++ ((44 ∷ decimal (r i)) ++ ((44 ∷ decimal (s i)) ++ (10 ∷ []))))))
 

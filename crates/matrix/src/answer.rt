@@ -2,15 +2,14 @@
 ghost use mathlib.Core.Path.{_≡_};
 ghost use lib.ListN.{length};
 ghost use Rattle.matrix.specs.Answers.{Answered};
-
+use crate::TextKind;
+use crate::write_fault;
 use address::Address;
 use line::Run;
 use plan::Plan;
 use planload::load_plan;
 use planwrite::write_plan;
 use refusal::Refusal;
-use crate::TextKind;
-use crate::write_fault;
 
 // What the first bytes of the buffer are: so many bytes of a plan, or of a fault line.
 #[derive(Clone, Copy)]
@@ -20,7 +19,11 @@ pub enum Answer {
 }
 
 // Loads the text into a new plan over these rows, and writes the plan, or the fault line, into the buffer.
-pub fn plan_answer<A: Address>(rows: &mut [Run<A, u8>], text: &[u8], out: &mut [u8]) -> Result<Answer, Refusal>
+pub fn plan_answer<A: Address>(
+    rows: &mut [Run<A, u8>],
+    text: &[u8],
+    out: &mut [u8],
+) -> Result<Answer, Refusal>
     ensures { λ r. ⌜ Answered (A·Address .text) (A·Point .place) (A·Point .size) (length (now (rows .entry))) (now (text .entry)) (now (out .entry)) (now (out .exit)) r ⌝ }
 {
     let mut plan = Plan::open(rows);

@@ -8,7 +8,6 @@ ghost use Rattle.std.specs.Written.{decimal};
 ghost use Rattle.text.specs.Buffers.{put};
 ghost use Rattle.planwrite.specs.Writes.{Wrote, Lacks-room};
 ghost use Rattle.matrix.specs.Lines.{word-of, fault-line};
-
 use refusal::Fault;
 use refusal::Refusal;
 use text::put_byte;

@@ -1,8 +1,8 @@
 // The work of a program: read the text, work out the answer, print it.
-use address::Address;
-use line::Run;
 use crate::Answer;
 use crate::plan_answer;
+use address::Address;
+use line::Run;
 use std::alloc::AllocError;
 use std::fs::File;
 use std::io;
@@ -48,7 +48,11 @@ fn plan_rows<A: Address>(rt: &LibcRuntime) -> Result<Vec<Run<A, u8>>, AllocError
     let first = A::first();
     let mut rows = Vec::new(rt.alloc());
     for _ in 0..PLAN_ROWS {
-        rows.push(Run { low: first, high: first, label: 0 })?;
+        rows.push(Run {
+            low: first,
+            high: first,
+            label: 0,
+        })?;
     }
     Ok(rows)
 }

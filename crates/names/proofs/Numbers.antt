@@ -50,7 +50,7 @@ pub well-any : (text : List ℕ) → text ≡ codes "any" → well-formed text �
 well-any text e = ap well-formed e
 
 pub well-rest : (text : List ℕ) → 1 ≤ length text → length text ≤ 12 → letters text ≡ true → sameBytes text (codes "any") ≡ false
-  → well-formed text ≡ not (sameBytes text (codes "elsewhere"))
+    → well-formed text ≡ not (sameBytes text (codes "elsewhere"))
 well-rest text a b c d =
     let p = le-leb 1 (length text) a in
     let q = le-leb (length text) 12 b in

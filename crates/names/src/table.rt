@@ -6,9 +6,8 @@ ghost use lib.ListN.{length, getD};
 ghost use Rattle.std.specs.Options.{Cases as BySome};
 ghost use Rattle.names.specs.Texts.{text-of, texts};
 ghost use Rattle.names.specs.Names.{number-in, declared};
-
-use crate::name::Name;
 use crate::Names;
+use crate::name::Name;
 
 impl Name {
     // The name with these bytes, of which there are at most 12.
@@ -34,7 +33,13 @@ impl Names {
     pub fn new() -> Names
         ensures { λ r. ⌜ texts r ≡ [] ⌝ }
     {
-        Names { list: [Name { bytes: [0; 12], len: 0 }; 24], count: 0 }
+        Names {
+            list: [Name {
+                bytes: [0; 12],
+                len: 0,
+            }; 24],
+            count: 0,
+        }
     }
 
     // How many names there are.

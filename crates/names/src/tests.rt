@@ -1,6 +1,6 @@
 // Texts that are names, and texts that are not.
-use crate::is_well_formed;
 use crate::Names;
+use crate::is_well_formed;
 use std::test::*;
 
 #[test]

@@ -20,11 +20,11 @@ Apart ns (m ∷ more) = (number-in ns m ≡ length ns + 1) × Apart (ns ++ m ∷
 
 -- a name is there, or it comes at the end
 pub with-cases : (ns : List (List ℕ)) (m : List ℕ)
-  → ((number-in ns m ≤ length ns) × (with-name ns m ≡ ns)) ⊎ ((number-in ns m ≡ length ns + 1) × (with-name ns m ≡ ns ++ m ∷ []))
+    → ((number-in ns m ≤ length ns) × (with-name ns m ≡ ns)) ⊎ ((number-in ns m ≡ length ns + 1) × (with-name ns m ≡ ns ++ m ∷ []))
 with-cases ns m = by (leb (number-in ns m) (length ns)) refl
   where
     by : (b : Bool) → leb (number-in ns m) (length ns) ≡ b
-      → ((number-in ns m ≤ length ns) × (cond b ns (ns ++ m ∷ []) ≡ ns)) ⊎ ((number-in ns m ≡ length ns + 1) × (cond b ns (ns ++ m ∷ []) ≡ ns ++ m ∷ []))
+        → ((number-in ns m ≤ length ns) × (cond b ns (ns ++ m ∷ []) ≡ ns)) ⊎ ((number-in ns m ≡ length ns + 1) × (cond b ns (ns ++ m ∷ []) ≡ ns ++ m ∷ []))
     by true h = inl (leb-true _ _ h, refl)
     by false h = inr (omega (arith, leb-false _ _ h, number-most ns m), refl)
 
@@ -42,8 +42,9 @@ apart-push ms (n ∷ ns) m a h =
 apart-with : (ns : List (List ℕ)) (m : List ℕ) → Apart [] ns → Apart [] (with-name ns m)
 apart-with ns m a =
     elim (with-cases ns m) [
-      inl c ↦ subst (λ (zs : List (List ℕ)). Apart [] zs) (sym (c .1)) a
-    | inr c ↦ subst (λ (zs : List (List ℕ)). Apart [] zs) (sym (c .1)) (apart-push [] ns m a (c .0)) ]
+      | inl c ↦ subst (λ (zs : List (List ℕ)). Apart [] zs) (sym (c .1)) a
+      | inr c ↦ subst (λ (zs : List (List ℕ)). Apart [] zs) (sym (c .1)) (apart-push [] ns m a (c .0))
+    ]
 
 apart-after : (ns : List (List ℕ)) (ds : List Declaration) → Apart [] ns → Apart [] (names-after ns ds)
 apart-after ns [] a = a

@@ -17,7 +17,7 @@ use Rattle.plan.specs.Edits.{first-cause}
 
 module _ (ds : List Declaration) (d : Declaration) (n : ℕ) (is : n ≡ number-in (names-of ds) (d .name)) where
   pub cause-refuses : (size rows : ℕ) (f r k : Bool) (e : Refusal) → f ≡ well-formed (d .name) → r ≡ ltb (d .high) (d .low) → k ≡ ltb 24 n
-    → Some e ≡ first-cause f r k → Refused size rows ds d e
+      → Some e ≡ first-cause f r k → Refused size rows ds d e
   cause-refuses size rows false r k e a b c h =
       let same : FieldMalformed ≡ e = cc in subst (λ (w : Refusal). Refused size rows ds d w) same (Refused.malformed (sym a))
   cause-refuses size rows true true k e a b c h =

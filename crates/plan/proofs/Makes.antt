@@ -42,7 +42,7 @@ well-short text h = leb-true (length text) 12 (second (leb 1 (length text)) (leb
 
 -- why a range does not fit is why its declaration is refused
 pub refuses : (size rows : ℕ) (ds : List Declaration) (d : Declaration) (n : ℕ) → n ≡ number-in (names-of ds) (d .name) → Sane ds d
-  → (e : Refusal) → Unfit size (network-of ds) (d .low) (d .high) n rows e → Refused size rows ds d e
+    → (e : Refusal) → Unfit size (network-of ds) (d .low) (d .high) n rows e → Refused size rows ds d e
 refuses size rows ds d n is sane e (Unfit.meets m) = Refused.meets sane m
 refuses size rows ds d n is sane e (Unfit.fills free fills) = Refused.fills sane free fills
 refuses size rows ds d n is sane e (Unfit.full free remains over-full) =
@@ -60,8 +60,8 @@ accepts-more size rows es (c ∷ ds) d all a =
     (all .0, accepts-more size rows (es ++ c ∷ []) ds d (all .1) (subst (λ (zs : List Declaration). Accepted size rows zs d) (sym (append-assoc es (c ∷ []) ds)) a))
 
 module _ {A : Type 0} (place : A → ℕ) (size : ℕ) (ds : List Declaration) (d : Declaration) (p q : Plan A) (e : Edit A)
-  (made : Made place size ds p) (judged : Judged place size ds p d e) (entered : Entered place p q (d .name) e)
-  (room : count-after (e .change) (p .count) ≤ length (now (p .rows))) (top : d .high < size) where
+    (made : Made place size ds p) (judged : Judged place size ds p d e) (entered : Entered place p q (d .name) e)
+    (room : count-after (e .change) (p .count) ≤ length (now (p .rows))) (top : d .high < size) where
   next-line : Line place size (network-of (ds ++ d ∷ [])) (take (q .count) (now (q .rows)))
   next-line =
       let a = judged .line in
@@ -112,16 +112,16 @@ blanks place (suc n) r b = (b, blanks place n r b)
 
 -- a new plan
 pub made-first : {A : Type 0} (place : A → ℕ) (size : ℕ) (p : Plan A) (rows : List (Run A ℕ)) (blank r : Run A ℕ) (n : ℕ)
-  → 0 < n → n ≤ 4096 → rows ≡ replicate n blank → Blank place blank → place (r .low) ≡ 0 → place (r .high) + 1 ≡ size → r .label ≡ 0
-  → now (p .rows) ≡ set rows 0 r → p .count ≡ 1 → texts (p .names) ≡ [] → Made place size [] p
+    → 0 < n → n ≤ 4096 → rows ≡ replicate n blank → Blank place blank → place (r .low) ≡ 0 → place (r .high) + 1 ≡ size → r .label ≡ 0
+    → now (p .rows) ≡ set rows 0 r → p .count ≡ 1 → texts (p .names) ≡ [] → Made place size [] p
 made-first {A} place size p rows blank r n pos most is b low high label table one none =
     let len : length rows ≡ n = ap (λ (zs : List (Run A ℕ)). length zs) is ∙ length-replicate n blank in
     let all : length (now (p .rows)) ≡ length rows = ap (λ (zs : List (Run A ℕ)). length zs) table ∙ length-set rows 0 r in
     let w = whole-line place size rows r (omega arith) low high in
     let front : take (p .count) (now (p .rows)) ≡ take 1 (set rows 0 r) = ap (λ (k : ℕ). take k (now (p .rows))) one ∙ ap (λ (zs : List (Run A ℕ)). take 1 zs) table in
     let rest : drop (p .count) (now (p .rows)) ≡ replicate (n - 1) blank =
-        ap (λ (k : ℕ). drop k (now (p .rows))) one ∙ ap (λ (zs : List (Run A ℕ)). drop 1 zs) table ∙ drop-set-lt 1 rows 0 r (omega arith)
-        ∙ ap (λ (zs : List (Run A ℕ)). drop 1 zs) is ∙ drop-replicate 1 n blank in
+    ap (λ (k : ℕ). drop k (now (p .rows))) one ∙ ap (λ (zs : List (Run A ℕ)). drop 1 zs) table ∙ drop-set-lt 1 rows 0 r (omega arith)
+    ∙ ap (λ (zs : List (Run A ℕ)). drop 1 zs) is ∙ drop-replicate 1 n blank in
     let line : Line place size (λ x. r .label) (take 1 (set rows 0 r)) = w in
     record {
       ready = omega arith;
@@ -141,7 +141,7 @@ no-runs {A} p runs told z some =
 
 -- an open plan has runs
 pub open-runs : {A : Type 0} (place : A → ℕ) (size : ℕ) (ds : List Declaration) (p : Plan A) → Made place size ds p
-  → (runs : List (Run A ℕ)) → runs ≡ take (p .count) (now (p .rows)) → 0 < length runs
+    → (runs : List (Run A ℕ)) → runs ≡ take (p .count) (now (p .rows)) → 0 < length runs
 open-runs {A} place size ds p made runs is =
     let e : length runs ≡ p .count = ap length is ∙ length-take-le (p .count) (now (p .rows)) (made .fits) in
     omega (arith, made .ready)
@@ -150,8 +150,9 @@ open-runs {A} place size ds p made runs is =
 pub some-fits : {X : Type 0} (runs : List X) (count n : ℕ) → (n < count → runs ≡ []) → 0 < length runs → count ≤ n
 some-fits runs count n none some =
     elim (cases-lt n count) [
-      inl h ↦ let e = ap length (none h) in absurd (omega arith)
-    | inr h ↦ h ]
+      | inl h ↦ let e = ap length (none h) in absurd (omega arith)
+      | inr h ↦ h
+    ]
 
 pub not-zero : (n : ℕ) → (n ≡ 0 → ⊥) → 0 < n
 not-zero n ne = omega arith

@@ -100,10 +100,10 @@ step false true k k′ num r s e pos h ih = ih h
 step false false k k′ num r s e pos h ih = ih h
 
 network-push : (ns ns′ : List (List ℕ)) (es : List Declaration) (d : Declaration) (x : ℕ)
-  → ((m : List ℕ) → number-in ns m ≤ length ns → number-in ns′ m ≡ number-in ns m)
-  → All (λ e. number-in ns (e .name) ≤ length ns) es
-  → ((leb (d .low) x && leb x (d .high)) ≡ true → network-in ns es x ≡ 0)
-  → network-in ns′ (es ++ d ∷ []) x ≡ cond (leb (d .low) x && leb x (d .high)) (number-in ns′ (d .name)) (network-in ns es x)
+    → ((m : List ℕ) → number-in ns m ≤ length ns → number-in ns′ m ≡ number-in ns m)
+    → All (λ e. number-in ns (e .name) ≤ length ns) es
+    → ((leb (d .low) x && leb x (d .high)) ≡ true → network-in ns es x ≡ 0)
+    → network-in ns′ (es ++ d ∷ []) x ≡ cond (leb (d .low) x && leb x (d .high)) (number-in ns′ (d .name)) (network-in ns es x)
 network-push ns ns′ [] d x same all free = refl
 network-push ns ns′ (e ∷ es) d x same all free =
     step (leb (e .low) x && leb x (e .high)) (leb (d .low) x && leb x (d .high)) (number-in ns (e .name)) (number-in ns′ (e .name)) (number-in ns′ (d .name))
@@ -112,14 +112,14 @@ network-push ns ns′ (e ∷ es) d x same all free =
 
 -- a declaration lays its number over what was free
 pub network-snoc : (ds : List Declaration) (d : Declaration) → ((x : ℕ) → d .low ≤ x → x ≤ d .high → network-of ds x ≡ 0)
-  → (x : ℕ) → over (network-of ds) (d .low) (d .high) (number-in (names-of ds) (d .name)) x ≡ network-of (ds ++ d ∷ []) x
+    → (x : ℕ) → over (network-of ds) (d .low) (d .high) (number-in (names-of ds) (d .name)) x ≡ network-of (ds ++ d ∷ []) x
 network-snoc ds d free x =
     let ns = names-of ds in
     let push = network-push ns (with-name ns (d .name)) ds d x (λ m h. number-with ns (d .name) m h) (all-has [] ds)
-        (λ t. let p = and-parts _ _ t in free x (leb-true _ _ (p .0)) (leb-true _ _ (p .1))) in
+    (λ t. let p = and-parts _ _ t in free x (leb-true _ _ (p .0)) (leb-true _ _ (p .1))) in
     ap (λ (k : ℕ). cond (leb (d .low) x && leb x (d .high)) k (network-in ns ds x)) (sym (number-new ns (d .name)))
     ∙ sym push ∙ ap (λ (zs : List (List ℕ)). network-in zs (ds ++ d ∷ []) x) (sym (names-snoc ds d))
 
 pub same-labels : (ds : List Declaration) (d : Declaration) → ((x : ℕ) → d .low ≤ x → x ≤ d .high → network-of ds x ≡ 0)
-  → _≡_ {A = ℕ → ℕ} (over (network-of ds) (d .low) (d .high) (number-in (names-of ds) (d .name))) (network-of (ds ++ d ∷ []))
+    → _≡_ {A = ℕ → ℕ} (over (network-of ds) (d .low) (d .high) (number-in (names-of ds) (d .name))) (network-of (ds ++ d ∷ []))
 same-labels ds d free = λ i x. network-snoc ds d free x i

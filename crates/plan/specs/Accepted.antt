@@ -49,7 +49,7 @@ pub data Refused (size rows : ℕ) (ds : List Declaration) (d : Declaration) : R
   meets : Sane ds d → Meets (network-of ds) (d .low) (d .high) → Refused size rows ds d RangeTaken
   fills : Sane ds d → Free (network-of ds) (d .low) (d .high) → Fills size (network-of ds) (d .low) (d .high) → Refused size rows ds d NothingElsewhere
   full : Sane ds d → Free (network-of ds) (d .low) (d .high) → Remains size (network-of ds) (d .low) (d .high)
-    → rows < runs-needed eqb size (network-of (ds ++ d ∷ [])) → Refused size rows ds d PlanFull
+      → rows < runs-needed eqb size (network-of (ds ++ d ∷ [])) → Refused size rows ds d PlanFull
 
 -- after ds each of `more` is accepted in its turn
 abbrev pub Accepts : ℕ → ℕ → List Declaration → List Declaration → Type 0

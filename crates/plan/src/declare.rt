@@ -13,7 +13,9 @@ ghost use Rattle.plan.specs.Accepted.{Refused};
 ghost use Rattle.splice.specs.Changes.{changed, count-after, Apt};
 ghost use Rattle.plan.specs.Made.{Blank, Made, Shut, Declared, declaration};
 ghost use Rattle.plan.specs.Edits.{Safe, Judged, Entered, first-cause};
-
+use crate::Plan;
+use crate::fit::fit;
+use crate::plan::Edit;
 use line::Point;
 use line::Run;
 use line::fill;
@@ -21,9 +23,6 @@ use names::is_well_formed;
 use refusal::Refusal;
 use splice::Change;
 use splice::apply;
-use crate::Plan;
-use crate::fit::fit;
-use crate::plan::Edit;
 
 // The first of the checks before the addresses that fails: of the name, of the range's order, of the number of names.
 fn first_cause(formed: bool, reversed: bool, crowded: bool) -> Option<Refusal>
@@ -53,7 +52,14 @@ fn change_rows<A: Point>(rows: &mut [Run<A, u8>], old: usize, change: &Change<A,
     let count = apply(rows, old, change);
     if count < old {
         let first = A::first();
-        fill(&mut rows[count..old], Run { low: first, high: first, label: 0 });
+        fill(
+            &mut rows[count..old],
+            Run {
+                low: first,
+                high: first,
+                label: 0,
+            },
+        );
     }
     count
 }

@@ -9,7 +9,6 @@ ghost use Rattle.line.specs.Line.{Line, over};
 ghost use Rattle.splice.specs.Changes.{Spot, changed, count-after, Apt};
 ghost use Rattle.plan.specs.Accepted.{Free, Fills, Remains};
 ghost use Rattle.plan.specs.Fit.{Unfit};
-
 use line::Point;
 use line::Run;
 use line::U8Label;
@@ -43,7 +42,13 @@ fn fills<P: Point>(runs: &[Run<P, u8>], at: usize, low: &P, high: &P) -> bool
 }
 
 // The change of a line that gives the label to the places from `low` to `high`, if they are free, others are too, and `most` rows are enough.
-pub(crate) fn fit<P: Point>(runs: &[Run<P, u8>], most: usize, low: P, high: P, label: u8) -> Result<Change<P, u8>, Refusal>
+pub(crate) fn fit<P: Point>(
+    runs: &[Run<P, u8>],
+    most: usize,
+    low: P,
+    high: P,
+    label: u8,
+) -> Result<Change<P, u8>, Refusal>
     requires some { ⌜ 0 < length (now runs) ⌝ }
     requires fits { ⌜ length (now runs) ≤ most ⌝ }
     requires ordered { ⌜ P·Point .place low ≤ P·Point .place high ⌝ }

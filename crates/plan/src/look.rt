@@ -11,13 +11,12 @@ ghost use Rattle.refusal.specs.declared.refusal.Refusal.the-variants as cause;
 ghost use Rattle.names.specs.Names as said;
 ghost use Rattle.plan.specs.Declarations.{Declaration, names-of, network-of};
 ghost use Rattle.plan.specs.Made.{Made, Shut};
-
+use crate::Plan;
 use line::Point;
 use line::Run;
 use line::look_up;
 use names::Names;
 use refusal::Refusal;
-use crate::Plan;
 
 impl<'a, A: Point> Plan<'a, A> {
     // Whether the plan was opened with rows that a plan may not have.

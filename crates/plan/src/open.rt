@@ -8,13 +8,12 @@ ghost use denote.Ref.{name as lender};
 ghost use Rattle.std.specs.Results.{Cases};
 ghost use Rattle.refusal.specs.declared.refusal.Refusal.the-variants.{WrongSize};
 ghost use Rattle.plan.specs.Made.{size-fits, Made, Shut};
-
+use crate::Plan;
 use line::Point;
 use line::Run;
 use line::fill;
 use names::Names;
 use refusal::Refusal;
-use crate::Plan;
 
 // Whether a plan may have so many rows.
 fn fits(rows: usize) -> bool
@@ -27,7 +26,11 @@ fn fits(rows: usize) -> bool
 pub fn check_rows(rows: usize) -> Result<(), Refusal>
     ensures { λ r. ⌜ Cases r (λ _. size-fits rows ≡ true) (λ e. (e ≡ WrongSize) × (size-fits rows ≡ false)) ⌝ }
 {
-    if fits(rows) { Ok(()) } else { Err(Refusal::WrongSize) }
+    if fits(rows) {
+        Ok(())
+    } else {
+        Err(Refusal::WrongSize)
+    }
 }
 
 impl<'a, A: Point> Plan<'a, A> {
@@ -39,11 +42,30 @@ impl<'a, A: Point> Plan<'a, A> {
         ensures lent { λ r. ⌜ lender (r .rows) ≡ lender (rows .entry) ⌝ }
     {
         if !fits(rows.len()) {
-            return Plan { rows, count: 0, names: Names::new() };
+            return Plan {
+                rows,
+                count: 0,
+                names: Names::new(),
+            };
         }
         let first = A::first();
-        fill(rows, Run { low: first, high: first, label: 0 });
-        rows[0] = Run { low: first, high: A::last(), label: 0 };
-        Plan { rows, count: 1, names: Names::new() }
+        fill(
+            rows,
+            Run {
+                low: first,
+                high: first,
+                label: 0,
+            },
+        );
+        rows[0] = Run {
+            low: first,
+            high: A::last(),
+            label: 0,
+        };
+        Plan {
+            rows,
+            count: 1,
+            names: Names::new(),
+        }
     }
 }

@@ -31,7 +31,7 @@ go-first text place size most ds all p h = record {
 }
 
 pub go-past : {A : Type 0} (text : A → List ℕ) (place : A → ℕ) (size most : ℕ) (ds : List Declaration) (all : List (List ℕ)) (p : Plan A) (line : ℕ) (left : List (List ℕ)) (row : List ℕ) (rest : List (List ℕ))
-  → left ≡ row ∷ rest → passed-over row ≡ true → Goes text place size most ds all p line left → Goes text place size most ds all p (line + 1) rest
+    → left ≡ row ∷ rest → passed-over row ≡ true → Goes text place size most ds all p line left → Goes text place size most ds all p (line + 1) rest
 go-past text place size most ds all p line left row rest e t g = record {
   m = g .m;
   made = g .made;
@@ -39,8 +39,8 @@ go-past text place size most ds all p line left row rest e t g = record {
 }
 
 pub go-on : {A : Type 0} (text : A → List ℕ) (place : A → ℕ) (size most : ℕ) (ds : List Declaration) (all : List (List ℕ)) (p q : Plan A) (line : ℕ) (left : List (List ℕ)) (row : List ℕ) (rest : List (List ℕ))
-  → left ≡ row ∷ rest → passed-over row ≡ false → (g : Goes text place size most ds all p line left)
-  → (d : Declaration) → Says text place row d → Accepted size most (ds ++ g .m) d → Made place size ((ds ++ g .m) ++ (d ∷ [])) q → Goes text place size most ds all q (line + 1) rest
+    → left ≡ row ∷ rest → passed-over row ≡ false → (g : Goes text place size most ds all p line left)
+    → (d : Declaration) → Says text place row d → Accepted size most (ds ++ g .m) d → Made place size ((ds ++ g .m) ++ (d ∷ [])) q → Goes text place size most ds all q (line + 1) rest
 go-on text place size most ds all p q line left row rest e t g d says ok made = record {
   m = g .m ++ (d ∷ []);
   made = subst (λ (x : List Declaration). Made place size x q) (append-assoc ds (g .m) (d ∷ [])) made;
@@ -51,13 +51,13 @@ go-on text place size most ds all p q line left row rest e t g d says ok made = 
 }
 
 pub go-fault : {A : Type 0} (text : A → List ℕ) (place : A → ℕ) (size most : ℕ) (ds : List Declaration) (all : List (List ℕ)) (p : Plan A) (line : ℕ) (left : List (List ℕ)) (row : List ℕ) (rest : List (List ℕ)) (f : Fault)
-  → left ≡ row ∷ rest → passed-over row ≡ false → (g : Goes text place size most ds all p line left) → Fails text place size most (ds ++ g .m) line row f → Loads text place size most ds 1 all (g .m) (Some f)
+    → left ≡ row ∷ rest → passed-over row ≡ false → (g : Goes text place size most ds all p line left) → Fails text place size most (ds ++ g .m) line row f → Loads text place size most ds 1 all (g .m) (Some f)
 go-fault text place size most ds all p line left row rest f e t g why =
     subst (λ (x : List Declaration). Loads text place size most ds 1 all x (Some f)) (nil (g .m))
     (g .goes [] (Some f) (subst (λ (x : List (List ℕ)). Loads text place size most (ds ++ g .m) line x [] (Some f)) (sym e) (Loads.fails (ds ++ g .m) line row rest f t why)))
 
 pub go-end : {A : Type 0} (text : A → List ℕ) (place : A → ℕ) (size most : ℕ) (ds : List Declaration) (all : List (List ℕ)) (p : Plan A) (line : ℕ) (left : List (List ℕ))
-  → left ≡ [] → (g : Goes text place size most ds all p line left) → Loads text place size most ds 1 all (g .m) None
+    → left ≡ [] → (g : Goes text place size most ds all p line left) → Loads text place size most ds 1 all (g .m) None
 go-end text place size most ds all p line left e g =
     subst (λ (x : List Declaration). Loads text place size most ds 1 all x None) (nil (g .m))
     (g .goes [] None (subst (λ (x : List (List ℕ)). Loads text place size most (ds ++ g .m) line x [] None) (sym e) (Loads.ends (ds ++ g .m) line)))

@@ -139,7 +139,7 @@ module _ {A : Type 0} (text : A → List ℕ) (place : A → ℕ) (tells : (a b 
         not-both size most ds d ok why (subst (λ (z : Declaration). Refused size most ds z why) (says-same row e d says′ says) against)
 
     pub loads-same : (ds : List Declaration) (line : ℕ) (rows : List (List ℕ)) (made others : List Declaration) (end last : Option Fault)
-      → Loads text place size most ds line rows made end → Loads text place size most ds line rows others last → (others ≡ made) × (last ≡ end)
+        → Loads text place size most ds line rows made end → Loads text place size most ds line rows others last → (others ≡ made) × (last ≡ end)
     loads-same ds line [] made others end last (Loads.ends _ _) (Loads.ends _ _) = (refl, refl)
     loads-same ds line (row ∷ rest) made others end last (Loads.passes _ _ _ _ _ _ p l) (Loads.passes _ _ _ _ _ _ p′ l′) = loads-same ds (line + 1) rest made others end last l l′
     loads-same ds line (row ∷ rest) made others end last (Loads.passes _ _ _ _ _ _ p l) (Loads.makes _ _ _ _ d more _ p′ says ok l′) = absurd (false≢true (sym p′ ∙ p))
@@ -157,8 +157,8 @@ module _ {A : Type 0} (text : A → List ℕ) (place : A → ℕ) (tells : (a b 
 
 -- the outcome of a load that ended so
 pub outcome : {A T : Type 0} (text : A → List ℕ) (place : A → ℕ) (size most : ℕ) (ds : List Declaration) (bytes : List ℕ) (m : List Declaration) (end : Option Fault) (r : Result T Fault) (p : Plan A)
-  → length (now (p .rows)) ≡ most → Made place size (ds ++ m) p → Loads text place size most ds 1 (rows bytes) m end → end ≡ fault-in r
-  → ((a b : A) → text a ≡ text b → place a ≡ place b) → Outcome text place size ds bytes r p
+    → length (now (p .rows)) ≡ most → Made place size (ds ++ m) p → Loads text place size most ds 1 (rows bytes) m end → end ≡ fault-in r
+    → ((a b : A) → text a ≡ text b → place a ≡ place b) → Outcome text place size ds bytes r p
 outcome text place size most ds bytes m end r p long made loads is tells =
     let back = sym long in
     let here = subst (λ (n : ℕ). Loads text place size n ds 1 (rows bytes) m end) back loads in

@@ -46,12 +46,12 @@ pub data Fails {A : Type 0} (text : A → List ℕ) (place : A → ℕ) (size mo
 pub data Loads {A : Type 0} (text : A → List ℕ) (place : A → ℕ) (size most : ℕ) : List Declaration → ℕ → List (List ℕ) → List Declaration → Option Fault → Type 0 where
   ends : (ds : List Declaration) (line : ℕ) → Loads text place size most ds line [] [] None
   passes : (ds : List Declaration) (line : ℕ) (row : List ℕ) (rest : List (List ℕ)) (made : List Declaration) (end : Option Fault)
-    → passed-over row ≡ true → Loads text place size most ds (line + 1) rest made end → Loads text place size most ds line (row ∷ rest) made end
+      → passed-over row ≡ true → Loads text place size most ds (line + 1) rest made end → Loads text place size most ds line (row ∷ rest) made end
   makes : (ds : List Declaration) (line : ℕ) (row : List ℕ) (rest : List (List ℕ)) (d : Declaration) (made : List Declaration) (end : Option Fault)
-    → passed-over row ≡ false → Says text place row d → Accepted size most ds d
-    → Loads text place size most (ds ++ d ∷ []) (line + 1) rest made end → Loads text place size most ds line (row ∷ rest) (d ∷ made) end
+      → passed-over row ≡ false → Says text place row d → Accepted size most ds d
+      → Loads text place size most (ds ++ d ∷ []) (line + 1) rest made end → Loads text place size most ds line (row ∷ rest) (d ∷ made) end
   fails : (ds : List Declaration) (line : ℕ) (row : List ℕ) (rest : List (List ℕ)) (f : Fault)
-    → passed-over row ≡ false → Fails text place size most ds line row f → Loads text place size most ds line (row ∷ rest) [] (Some f)
+      → passed-over row ≡ false → Fails text place size most ds line row f → Loads text place size most ds line (row ∷ rest) [] (Some f)
 
 -- a text adds `made` to ds and ends so; its first row is line 1
 abbrev pub Loaded : {A : Type 0} → (A → List ℕ) → (A → ℕ) → ℕ → ℕ → List Declaration → List ℕ → List Declaration → Option Fault → Type 0

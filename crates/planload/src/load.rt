@@ -12,13 +12,12 @@ ghost use Rattle.plan.specs.Declarations.{Declaration};
 ghost use Rattle.plan.specs.Made.{Made, Shut};
 ghost use Rattle.planload.specs.Loads.{Fails};
 ghost use Rattle.planload.specs.Outcome.{Added, Outcome};
-
+use crate::row::read_row;
 use address::Address;
 use plan::Plan;
 use refusal::Fault;
 use refusal::Refusal;
 use text::Rows;
-use crate::row::read_row;
 
 // The bytes that a text may have at most.
 const LONGEST: usize = 16384;

@@ -7,7 +7,6 @@ ghost use Rattle.std.specs.Options.{Cases as BySome};
 ghost use Rattle.std.specs.Results.{Cases};
 ghost use Rattle.names.specs.Names.{well-formed};
 ghost use Rattle.planload.specs.Loads.{Net, Unread};
-
 use address::Address;
 use names::is_well_formed;
 use refusal::Fault;
@@ -74,5 +73,9 @@ pub(crate) fn read_row<A: Address>(row: &[u8], line: usize) -> Result<Entry<'_, 
     let Some(high) = A::read_text(fields.high.bytes) else {
         return Err(Fault::new(Refusal::FieldMalformed, line, fields.high.number));
     };
-    Ok(Entry { name: fields.name.bytes, low, high })
+    Ok(Entry {
+        name: fields.name.bytes,
+        low,
+        high,
+    })
 }

@@ -1,7 +1,6 @@
 // The fault of a text: what a load returns where it is refused.
 ghost use mathlib.Core.Path.{_≡_};
 ghost use Rattle.refusal.specs.Faults.{fault};
-
 use crate::Refusal;
 use crate::refusal::RefusalDebug;
 use crate::refusal::RefusalPartialEq;

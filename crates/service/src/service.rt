@@ -1,7 +1,6 @@
 // The service point: protocol by protocol, and port by port within a protocol.
 ghost use mathlib.Core.Path.{_≡_};
 ghost use Prim.Native.Nat.{ℕ, _+_, _*_, _^_, _<_};
-
 use line::Point;
 
 // A protocol and a port.
@@ -43,33 +42,52 @@ pub impl Point for Service as ServicePoint {
     }
 
     fn before(&self, other: &Self) -> bool {
-        self.protocol < other.protocol || (self.protocol == other.protocol && self.port < other.port)
+        self.protocol < other.protocol
+            || (self.protocol == other.protocol && self.port < other.port)
     }
 
     fn first() -> Self {
-        Service { protocol: 0, port: 0 }
+        Service {
+            protocol: 0,
+            port: 0,
+        }
     }
 
     fn last() -> Self {
-        Service { protocol: u8::MAX, port: u16::MAX }
+        Service {
+            protocol: u8::MAX,
+            port: u16::MAX,
+        }
     }
 
     fn next(&self) -> Option<Self> {
         if self.port < u16::MAX {
-            return Some(Service { protocol: self.protocol, port: self.port + 1 });
+            return Some(Service {
+                protocol: self.protocol,
+                port: self.port + 1,
+            });
         }
         if self.protocol < u8::MAX {
-            return Some(Service { protocol: self.protocol + 1, port: 0 });
+            return Some(Service {
+                protocol: self.protocol + 1,
+                port: 0,
+            });
         }
         None
     }
 
     fn previous(&self) -> Option<Self> {
         if self.port > 0 {
-            return Some(Service { protocol: self.protocol, port: self.port - 1 });
+            return Some(Service {
+                protocol: self.protocol,
+                port: self.port - 1,
+            });
         }
         if self.protocol > 0 {
-            return Some(Service { protocol: self.protocol - 1, port: u16::MAX });
+            return Some(Service {
+                protocol: self.protocol - 1,
+                port: u16::MAX,
+            });
         }
         None
     }

@@ -1,12 +1,14 @@
 // The edges of the scale of services.
-use line::Point;
 use crate::Service;
 use crate::ServicePoint;
+use line::Point;
 use std::test::*;
 
 #[test]
 fn a_protocol_ends_where_the_next_begins() -> Result<(), Fail> {
-    let after = Service::new(6, u16::MAX).next().ok_or("none after 6/65535")?;
+    let after = Service::new(6, u16::MAX)
+        .next()
+        .ok_or("none after 6/65535")?;
     check_eq(after.protocol(), 7)?;
     check_eq(after.port(), 0)?;
     let before = after.previous().ok_or("none before 7/0")?;

@@ -22,7 +22,7 @@ module _ {L : Type 0} (f : ℕ → L) (low high : ℕ) (l : L) where
 module _ {P L : Type 0} (place : P → ℕ) where
   -- where two labellings agree, a part of the one is a part of the other
   pub part-like : (f g : ℕ → L) (end from : ℕ) (rows : List (Run P L)) → ((x : ℕ) → from ≤ x → x < end → f x ≡ g x)
-    → Part place f end from rows → Part place g end from rows
+      → Part place f end from rows → Part place g end from rows
   part-like f g end from rows same p =
       record { joined = p .joined; painted = painted-like place end from f g rows (p .joined) same (p .painted); differ = p .differ }
 
@@ -44,7 +44,7 @@ module _ {P L : Type 0} (place : P → ℕ) where
   begins-front l (x ∷ xs) ys b e = b
 
   pub part-append : (f : ℕ → L) (from mid end : ℕ) (xs ys : List (Run P L)) → Part place f mid from xs → Part place f end mid ys
-    → (from < mid → mid < end → f (mid - 1) ≡ f mid → ⊥) → Part place f end from (xs ++ ys)
+      → (from < mid → mid < end → f (mid - 1) ≡ f mid → ⊥) → Part place f end from (xs ++ ys)
   part-append f from mid end [] ys p q turns = subst (λ (n : ℕ). Part place f end n ys) (sym (p .joined)) q
   part-append f from mid end (r ∷ xs) ys p q turns =
       let tail = part-tail f mid from r xs p in
@@ -54,13 +54,14 @@ module _ {P L : Type 0} (place : P → ℕ) where
       record {
         joined = (p .joined .0, p .joined .1, more .joined);
         painted = (p .painted .0, more .painted);
-        differ =
-            (begins-front (r .label) xs ys (p .differ .0)
-             (λ none. begins f end mid (r .label) ys q (λ lt e.
-                 let here : place (r .high) + 1 ≡ mid = ended xs none tail in
-                 let back : mid - 1 ≡ place (r .high) = omega arith in
-                 turns (omega arith) lt (ap f back ∙ last ∙ e))),
-            more .differ);
+        differ = (
+          begins-front (r .label) xs ys (p .differ .0)
+              (λ none. begins f end mid (r .label) ys q (λ lt e.
+              let here : place (r .high) + 1 ≡ mid = ended xs none tail in
+              let back : mid - 1 ≡ place (r .high) = omega arith in
+              turns (omega arith) lt (ap f back ∙ last ∙ e))),
+          more .differ,
+        );
       }
     where
       ended : {n : ℕ} (zs : List (Run P L)) → length zs ≡ 0 → Part place f mid n zs → n ≡ mid
@@ -72,7 +73,7 @@ module _ {P L : Type 0} (place : P → ℕ) where
 
   -- the rows before the one at k, and from it on
   pub part-take : (f : ℕ → L) (end from : ℕ) (rows : List (Run P L)) (k : ℕ) (d : Run P L) → k < length rows → Part place f end from rows
-    → Part place f (place (getD rows k d .low)) from (take k rows)
+      → Part place f (place (getD rows k d .low)) from (take k rows)
   part-take f end from [] k d lt p = absurd (omega arith)
   part-take f end from (r ∷ rows) zero d lt p = record { joined = sym (p .joined .0); painted = tt; differ = tt }
   part-take f end from (r ∷ rows) (suc k) d lt p =
@@ -85,21 +86,21 @@ module _ {P L : Type 0} (place : P → ℕ) where
       first (z ∷ zs) (suc m) b = b
 
   pub part-drop : (f : ℕ → L) (end from : ℕ) (rows : List (Run P L)) (k : ℕ) (d : Run P L) → k < length rows → Part place f end from rows
-    → Part place f end (place (getD rows k d .low)) (drop k rows)
+      → Part place f end (place (getD rows k d .low)) (drop k rows)
   part-drop f end from [] k d lt p = absurd (omega arith)
   part-drop f end from (r ∷ rows) zero d lt p = subst (λ (n : ℕ). Part place f end n (r ∷ rows)) (sym (p .joined .0)) p
   part-drop f end from (r ∷ rows) (suc k) d lt p = part-drop f end (place (r .high) + 1) rows k d (omega arith) (part-tail f end from r rows p)
 
   -- what is left after the row at k
   pub part-after : (f : ℕ → L) (end from : ℕ) (rows : List (Run P L)) (k : ℕ) (d : Run P L) → k < length rows → Part place f end from rows
-    → Part place f end (place (getD rows k d .high) + 1) (drop (k + 1) rows)
+      → Part place f end (place (getD rows k d .high) + 1) (drop (k + 1) rows)
   part-after f end from [] k d lt p = absurd (omega arith)
   part-after f end from (r ∷ rows) zero d lt p = part-tail f end from r rows p
   part-after f end from (r ∷ rows) (suc k) d lt p = simp add-one (simp add-one at (part-after f end (place (r .high) + 1) rows k d (omega arith) (part-tail f end from r rows p)))
 
   -- the labelling turns where a row begins
   pub part-turns : (f : ℕ → L) (end from : ℕ) (rows : List (Run P L)) (k : ℕ) (d : Run P L) → k + 1 < length rows → Part place f end from rows
-    → getD rows k d .label ≡ getD rows (k + 1) d .label → ⊥
+      → getD rows k d .label ≡ getD rows (k + 1) d .label → ⊥
   part-turns f end from [] k d lt p = absurd (omega arith)
   part-turns f end from (r ∷ []) k d lt p = absurd (omega arith)
   part-turns f end from (r ∷ q ∷ rows) zero d lt p = p .differ .0

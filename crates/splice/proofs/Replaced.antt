@@ -8,9 +8,9 @@ use lib.ListN.{length, getD, take, drop}
 use Rattle.std.proofs.shelf.Lists.{same-lists, places, append-assoc, length-append, length-take-le, take-append-drop, take-take}
 
 module _ {X : Type 0} (old moved : List X) (count from to tail end : ℕ) (same : length moved ≡ length old)
-  (a : from ≤ to) (b : to ≤ count) (c : count ≤ length old) (d : from ≤ tail) (e : end ≡ tail + (count - to)) (f : end ≤ length old)
-  (kept : (k : ℕ) (z : X) → k < to → k < tail → getD moved k z ≡ getD old k z)
-  (shift : (k : ℕ) (z : X) → tail + k < end → getD moved (tail + k) z ≡ getD old (to + k) z) where
+    (a : from ≤ to) (b : to ≤ count) (c : count ≤ length old) (d : from ≤ tail) (e : end ≡ tail + (count - to)) (f : end ≤ length old)
+    (kept : (k : ℕ) (z : X) → k < to → k < tail → getD moved k z ≡ getD old k z)
+    (shift : (k : ℕ) (z : X) → tail + k < end → getD moved (tail + k) z ≡ getD old (to + k) z) where
   front : take from moved ≡ take from (take count old)
   front = same-lists _ _ (search (needs, places)) (λ k z h.
       let lt : k < from = grind (arith, places) in
@@ -25,14 +25,14 @@ module _ {X : Type 0} (old moved : List X) (count from to tail end : ℕ) (same 
 
   -- the rows after the three writes
   pub replaced : (one two three xs ys zs : List X) (i j m : ℕ)
-    → i ≡ from + length xs → take i one ≡ take from moved ++ xs → ((n : ℕ) → i ≤ n → drop n one ≡ drop n moved)
-    → j ≡ i + length ys → take j two ≡ take i one ++ ys → ((n : ℕ) → j ≤ n → drop n two ≡ drop n one)
-    → m ≡ j + length zs → take m three ≡ take j two ++ zs → ((n : ℕ) → m ≤ n → drop n three ≡ drop n two)
-    → m ≡ tail
-    → take end three ≡ take from (take count old) ++ ((xs ++ (ys ++ zs)) ++ drop to (take count old))
+      → i ≡ from + length xs → take i one ≡ take from moved ++ xs → ((n : ℕ) → i ≤ n → drop n one ≡ drop n moved)
+      → j ≡ i + length ys → take j two ≡ take i one ++ ys → ((n : ℕ) → j ≤ n → drop n two ≡ drop n one)
+      → m ≡ j + length zs → take m three ≡ take j two ++ zs → ((n : ℕ) → m ≤ n → drop n three ≡ drop n two)
+      → m ≡ tail
+      → take end three ≡ take from (take count old) ++ ((xs ++ (ys ++ zs)) ++ drop to (take count old))
   replaced one two three xs ys zs i j m p1 q1 r1 p2 q2 r2 p3 q3 r3 is =
       let whole : take m three ≡ take from (take count old) ++ (xs ++ (ys ++ zs)) =
-          q3 ∙ ap (λ (v : List X). v ++ zs) (q2 ∙ ap (λ (v : List X). v ++ ys) (q1 ∙ ap (λ (v : List X). v ++ xs) front)) ∙ simp append-assoc in
+      q3 ∙ ap (λ (v : List X). v ++ zs) (q2 ∙ ap (λ (v : List X). v ++ ys) (q1 ∙ ap (λ (v : List X). v ++ xs) front)) ∙ simp append-assoc in
       let rest : drop m three ≡ drop m moved = r3 m (omega arith) ∙ r2 m (omega arith) ∙ r1 m (omega arith) in
       split m three (count - to) end (omega arith)
       ∙ ap (λ (v : List X). v ++ take (count - to) (drop m three)) whole
@@ -45,7 +45,7 @@ module _ {X : Type 0} (old moved : List X) (count from to tail end : ℕ) (same 
 
 -- lists of one length that agree from n on end alike
 pub rest-same : {X : Type 0} (old moved : List X) (n : ℕ) → length moved ≡ length old → ((k : ℕ) (z : X) → n ≤ k → getD moved k z ≡ getD old k z)
-  → drop n moved ≡ drop n old
+    → drop n moved ≡ drop n old
 rest-same old moved n same agree = same-lists _ _ (search (needs, places)) (λ k z h.
     let s = agree (n + k) z (omega arith) in
     grind (arith, places))

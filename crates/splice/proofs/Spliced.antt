@@ -59,7 +59,7 @@ module _ {P L : Type 0} (place : P → ℕ) (size : ℕ) (f : ℕ → L) (rows :
 
   module _ (low : P) (high : ℕ) (l : L) (spot : Spot place size f rows at (place low) high l) where
     pub led-rest : (e : P) → place (r .low) < place low → place e + 1 ≡ place low
-      → Led place f rows (place low) high l (record { cut = at; rest = Some (record { low = r .low; high = e; label = r .label }); end = low })
+        → Led place f rows (place low) high l (record { cut = at; rest = Some (record { low = r .low; high = e; label = r .label }); end = low })
     led-rest e lt next =
         let lo = place low in
         let g = over f lo high l in
@@ -80,7 +80,7 @@ module _ {P L : Type 0} (place : P → ℕ) (size : ℕ) (f : ℕ → L) (rows :
         }
 
     pub led-merge : (q : Run P L) → place low ≤ place (r .low) → 0 < at → getD rows (at - 1) q ≡ q → q .label ≡ l
-      → Led place f rows (place low) high l (record { cut = at - 1; rest = None; end = q .low })
+        → Led place f rows (place low) high l (record { cut = at - 1; rest = None; end = q .low })
     led-merge q le pos isq same =
         let lo = place low in
         let g = over f lo high l in
@@ -89,17 +89,17 @@ module _ {P L : Type 0} (place : P → ℕ) (size : ℕ) (f : ℕ → L) (rows :
         let in-rows = spot .within in
         let back : at - 1 + 1 ≡ at = omega arith in
         let next : place (getD rows at q .low) ≡ place (getD rows (at - 1) q .high) + 1 =
-            subst (λ (n : ℕ). place (getD rows n q .low) ≡ place (getD rows (at - 1) q .high) + 1) back (row-next place size 0 rows (at - 1) q (omega arith) (spot .line .joined)) in
+        subst (λ (n : ℕ). place (getD rows n q .low) ≡ place (getD rows (at - 1) q .high) + 1) back (row-next place size 0 rows (at - 1) q (omega arith) (spot .line .joined)) in
         let here : getD rows at q ≡ r = getD-default rows at q r (spot .within) ∙ is in
         let join : place (r .low) ≡ place (q .high) + 1 = sym (ap (λ (w : Run P L). place (w .low)) here) ∙ next ∙ ap (λ (w : Run P L). place (w .high) + 1) isq in
         let k : Keeps f (q .label) (place (q .low)) (place (q .high)) =
-            subst (λ (w : Run P L). Keeps f (w .label) (place (w .low)) (place (w .high))) isq (row-keeps place f rows (at - 1) q (omega arith) (spot .line .painted)) in
+        subst (λ (w : Run P L). Keeps f (w .label) (place (w .low)) (place (w .high))) isq (row-keeps place f rows (at - 1) q (omega arith) (spot .line .painted)) in
         let kle = k .ordered in
         let turn : 0 < place (q .low) → f (place (q .low) - 1) ≡ f (place (q .low)) → ⊥ =
-            subst (λ (w : Run P L). 0 < place (w .low) → f (place (w .low) - 1) ≡ f (place (w .low)) → ⊥) isq
-            (λ a. turn-before place size f rows (spot .line) (at - 1) q (omega arith) a .2) in
+        subst (λ (w : Run P L). 0 < place (w .low) → f (place (w .low) - 1) ≡ f (place (w .low)) → ⊥) isq
+        (λ a. turn-before place size f rows (spot .line) (at - 1) q (omega arith) a .2) in
         let part : Part place f (place (q .low)) 0 (take (at - 1) rows) =
-            subst (λ (w : Run P L). Part place f (place (w .low)) 0 (take (at - 1) rows)) isq (part-take place f size 0 rows (at - 1) q (omega arith) (whole lo high l spot)) in
+        subst (λ (w : Run P L). Part place f (place (w .low)) 0 (take (at - 1) rows)) isq (part-take place f size 0 rows (at - 1) q (omega arith) (whole lo high l spot)) in
         record {
           part = rw append-nil (part-like place f g (place (q .low)) 0 (take (at - 1) rows) (λ x a b. below lo high l spot x (omega arith)) part);
           turns = λ a e. turn a (below lo high l spot _ (omega arith) ∙ e ∙ sym same ∙ sym (k .labelled (place (q .low)) (omega arith) kle));
@@ -108,7 +108,7 @@ module _ {P L : Type 0} (place : P → ℕ) (size : ℕ) (f : ℕ → L) (rows :
         }
 
     pub led-plain : place low ≤ place (r .low) → (0 < at → (q : Run P L) → getD rows (at - 1) q ≡ q → q .label ≡ l → ⊥)
-      → Led place f rows (place low) high l (record { cut = at; rest = None; end = low })
+        → Led place f rows (place low) high l (record { cut = at; rest = None; end = low })
     led-plain le apart =
         let lo = place low in
         let g = over f lo high l in
@@ -133,7 +133,7 @@ module _ {P L : Type 0} (place : P → ℕ) (size : ℕ) (f : ℕ → L) (rows :
 
   module _ (low : ℕ) (high : P) (l : L) (spot : Spot place size f rows at low (place high) l) where
     pub follows-rest : (e : P) → place high < place (r .high) → place e ≡ place high + 1
-      → Follows place size f rows low (place high) l (record { cut = at + 1; rest = Some (record { low = e; high = r .high; label = r .label }); end = high })
+        → Follows place size f rows low (place high) l (record { cut = at + 1; rest = Some (record { low = e; high = r .high; label = r .label }); end = high })
     follows-rest e lt next =
         let hi = place high in
         let g = over f low hi l in
@@ -148,15 +148,15 @@ module _ {P L : Type 0} (place : P → ℕ) (size : ℕ) (f : ℕ → L) (rows :
               (subst (λ (n : ℕ). Part place g (place (r .high) + 1) n (rest ∷ [])) next one)
               (part-like place f g size (place (r .high) + 1) (drop (at + 1) rows) (λ x a b. above low hi l spot x (omega arith)) (rest-after low hi l spot))
               (λ a b same.
-                  let back : place (r .high) + 1 - 1 ≡ place (r .high) = omega arith in
-                  turns-after low hi l spot b .1 (above low hi l spot _ lt ∙ ap g (sym back) ∙ same ∙ sym (above low hi l spot _ (omega arith))));
+              let back : place (r .high) + 1 - 1 ≡ place (r .high) = omega arith in
+              turns-after low hi l spot b .1 (above low hi l spot _ lt ∙ ap g (sym back) ∙ same ∙ sym (above low hi l spot _ (omega arith))));
           turns = λ a same. differs low hi l spot (sym last ∙ above low hi l spot _ (omega arith) ∙ same);
           keeps = λ x a b. absurd (omega arith);
           reaches = omega arith;
         }
 
     pub follows-merge : (q : Run P L) → place (r .high) ≤ place high → at + 1 < length rows → getD rows (at + 1) q ≡ q → q .label ≡ l
-      → Follows place size f rows low (place high) l (record { cut = at + 2; rest = None; end = q .high })
+        → Follows place size f rows low (place high) l (record { cut = at + 2; rest = None; end = q .high })
     follows-merge q le lt isq same =
         let hi = place high in
         let g = over f low hi l in
@@ -165,15 +165,15 @@ module _ {P L : Type 0} (place : P → ℕ) (size : ℕ) (f : ℕ → L) (rows :
         let next = row-next place size 0 rows at q lt (spot .line .joined) in
         let join : place (q .low) ≡ place (r .high) + 1 = sym (ap (λ (w : Run P L). place (w .low)) isq) ∙ next ∙ ap (λ (w : Run P L). place (w .high) + 1) here in
         let k : Keeps f (q .label) (place (q .low)) (place (q .high)) =
-            subst (λ (w : Run P L). Keeps f (w .label) (place (w .low)) (place (w .high))) isq (row-keeps place f rows (at + 1) q lt (spot .line .painted)) in
+        subst (λ (w : Run P L). Keeps f (w .label) (place (w .low)) (place (w .high))) isq (row-keeps place f rows (at + 1) q lt (spot .line .painted)) in
         let kle = k .ordered in
         let turn : place (q .high) + 1 < size → f (place (q .high)) ≡ f (place (q .high) + 1) → ⊥ =
-            subst (λ (w : Run P L). place (w .high) + 1 < size → f (place (w .high)) ≡ f (place (w .high) + 1) → ⊥) isq
-            (λ a. turn-after place size f rows (spot .line) (at + 1) q lt a .1) in
+        subst (λ (w : Run P L). place (w .high) + 1 < size → f (place (w .high)) ≡ f (place (w .high) + 1) → ⊥) isq
+        (λ a. turn-after place size f rows (spot .line) (at + 1) q lt a .1) in
         let two : at + 1 + 1 ≡ at + 2 = omega arith in
         let part : Part place f size (place (q .high) + 1) (drop (at + 2) rows) =
-            subst (λ (n : ℕ). Part place f size (place (q .high) + 1) (drop n rows)) two
-            (subst (λ (w : Run P L). Part place f size (place (w .high) + 1) (drop (at + 1 + 1) rows)) isq (part-after place f size 0 rows (at + 1) q lt (whole low hi l spot))) in
+        subst (λ (n : ℕ). Part place f size (place (q .high) + 1) (drop n rows)) two
+        (subst (λ (w : Run P L). Part place f size (place (w .high) + 1) (drop (at + 1 + 1) rows)) isq (part-after place f size 0 rows (at + 1) q lt (whole low hi l spot))) in
         record {
           part = part-like place f g size (place (q .high) + 1) (drop (at + 2) rows) (λ x a b. above low hi l spot x (omega arith)) part;
           turns = λ a e. turn a (k .labelled (place (q .high)) kle (omega arith) ∙ same ∙ sym e ∙ sym (above low hi l spot _ (omega arith)));
@@ -182,7 +182,7 @@ module _ {P L : Type 0} (place : P → ℕ) (size : ℕ) (f : ℕ → L) (rows :
         }
 
     pub follows-plain : place (r .high) ≤ place high → (at + 1 < length rows → (q : Run P L) → getD rows (at + 1) q ≡ q → q .label ≡ l → ⊥)
-      → Follows place size f rows low (place high) l (record { cut = at + 1; rest = None; end = high })
+        → Follows place size f rows low (place high) l (record { cut = at + 1; rest = None; end = high })
     follows-plain le apart =
         let hi = place high in
         let g = over f low hi l in
@@ -207,22 +207,24 @@ module _ {P L : Type 0} (place : P → ℕ) (size : ℕ) (f : ℕ → L) (rows :
 -- the two sides with the new run between them
 module _ {P L : Type 0} (place : P → ℕ) (size : ℕ) (f : ℕ → L) (rows : List (Run P L)) (low high : ℕ) (l : L) where
   pub spliced : (s t : Side P L) → low ≤ high → place (t .end) < size → Led place f rows low high l s → Follows place size f rows low high l t
-    → Line place size (over f low high l) (take (s .cut) rows ++ listed (s .rest) ++ (record { low = s .end; high = t .end; label = l } ∷ (listed (t .rest) ++ drop (t .cut) rows)))
+      → Line place size (over f low high l) (take (s .cut) rows ++ listed (s .rest) ++ (record { low = s .end; high = t .end; label = l } ∷ (listed (t .rest) ++ drop (t .cut) rows)))
   spliced s t le inside a b =
       let g = over f low high l in
       let new : Run P L = record { low = s .end; high = t .end; label = l } in
       let al = a .reaches in
       let bl = b .reaches in
       let labelled : (x : ℕ) → place (s .end) ≤ x → x ≤ place (t .end) → g x ≡ l =
-          λ x u v. elim (order x low) [
-              inl h ↦ over-out f low high l x (λ p q. omega arith) ∙ a .keeps x u h
-            | inr h ↦ elim (order high x) [
-                inl h′ ↦ over-out f low high l x (λ p q. omega arith) ∙ b .keeps x h′ v
-              | inr h′ ↦ over-in f low high l x (grind arith) (grind arith) ] ] in
+      λ x u v. elim (order x low) [
+        | inl h ↦ over-out f low high l x (λ p q. omega arith) ∙ a .keeps x u h
+        | inr h ↦ elim (order high x) [
+          | inl h′ ↦ over-out f low high l x (λ p q. omega arith) ∙ b .keeps x h′ v
+          | inr h′ ↦ over-in f low high l x (grind arith) (grind arith)
+        ]
+      ] in
       let one = part-one place g new (record { ordered = omega arith; labelled = labelled }) in
       let back : place (t .end) + 1 - 1 ≡ place (t .end) = omega arith in
       let right = part-append place g (place (s .end)) (place (t .end) + 1) size (new ∷ []) (listed (t .rest) ++ drop (t .cut) rows) one (b .part)
-          (λ u v e. b .turns v (sym e ∙ ap g back ∙ labelled _ (omega arith) (omega arith))) in
+      (λ u v e. b .turns v (sym e ∙ ap g back ∙ labelled _ (omega arith) (omega arith))) in
       let all = part-append place g 0 (place (s .end)) size (take (s .cut) rows ++ listed (s .rest)) (new ∷ (listed (t .rest) ++ drop (t .cut) rows)) (a .part) right
-          (λ u v e. a .turns u (e ∙ labelled _ (omega arith) (omega arith))) in
+      (λ u v e. a .turns u (e ∙ labelled _ (omega arith) (omega arith))) in
       record { joined = all .joined; painted = all .painted; differ = all .differ }

@@ -31,15 +31,16 @@ module _ {P L : Type 0} (place : P → ℕ) (size : ℕ) (f : ℕ → L) (rows :
       (sym (here .labelled _ a (omega arith)) ∙ e ∙ ap f (sym next) ∙ there .labelled _ (omega arith) b)
 
   pub turn-after : (k : ℕ) (d : Run P L) → k < length rows → place (getD rows k d .high) + 1 < size
-    → (k + 1 < length rows) × (f (place (getD rows k d .high)) ≡ f (place (getD rows k d .high) + 1) → ⊥)
+      → (k + 1 < length rows) × (f (place (getD rows k d .high)) ≡ f (place (getD rows k d .high) + 1) → ⊥)
   turn-after k d lt below =
       elim (order (k + 1) (length rows)) [
-        inl h ↦ (h, turn-next k d h)
-      | inr (inl e) ↦ let last = row-last place size 0 rows k d e (line .joined) in absurd (omega arith)
-      | inr (inr h) ↦ absurd (omega arith) ]
+        | inl h ↦ (h, turn-next k d h)
+        | inr (inl e) ↦ let last = row-last place size 0 rows k d e (line .joined) in absurd (omega arith)
+        | inr (inr h) ↦ absurd (omega arith)
+      ]
 
   pub turn-before : (k : ℕ) (d : Run P L) → k < length rows → 0 < place (getD rows k d .low)
-    → (0 < k) × (place (getD rows (k - 1) d .high) + 1 ≡ place (getD rows k d .low)) × (f (place (getD rows k d .low) - 1) ≡ f (place (getD rows k d .low)) → ⊥)
+      → (0 < k) × (place (getD rows (k - 1) d .high) + 1 ≡ place (getD rows k d .low)) × (f (place (getD rows k d .low) - 1) ≡ f (place (getD rows k d .low)) → ⊥)
   turn-before zero d lt pos =
       let first = row-first place size 0 rows d (inside rows (line .joined)) (line .joined) in
       absurd (omega arith)

@@ -5,7 +5,6 @@ ghost use Prim.Native.Nat.{ℕ, _+_, _-_, _<_, _≤_};
 ghost use lib.ListN.{length, getD, take, drop};
 ghost use lib.Dec.{leb};
 ghost use Rattle.splice.specs.Changes.{listed, news, changed, count-after, Apt};
-
 use crate::Change;
 
 // Whether a change of the first `count` rows leaves no more of them than `most`.
@@ -19,7 +18,11 @@ pub fn has_room<P: Copy, L: Copy>(change: &Change<P, L>, count: usize, most: usi
 }
 
 // Makes a change in the first `count` rows, and says how many they are then; the rows past both counts stay.
-pub fn apply<P: Copy, L: Copy>(rows: &mut [line::Run<P, L>], count: usize, change: &Change<P, L>) -> usize
+pub fn apply<P: Copy, L: Copy>(
+    rows: &mut [line::Run<P, L>],
+    count: usize,
+    change: &Change<P, L>,
+) -> usize
     requires apt { ⌜ Apt count (now change) ⌝ }
     requires fits { ⌜ count ≤ length (now rows) ⌝ }
     requires room { ⌜ count-after (now change) count ≤ length (now rows) ⌝ }
@@ -27,11 +30,27 @@ pub fn apply<P: Copy, L: Copy>(rows: &mut [line::Run<P, L>], count: usize, chang
     ensures list { λ r. ⌜ take r (now (rows .exit)) ≡ changed (now (change .entry)) (take count (now (rows .entry))) ⌝ }
     ensures rest { λ r. ⌜ ((n : ℕ) → count ≤ n → r ≤ n → drop n (now (rows .exit)) ≡ drop n (now (rows .entry))) ⌝ }
 {
-    replace(rows, count, change.from, change.to, change.before, change.run, change.after)
+    replace(
+        rows,
+        count,
+        change.from,
+        change.to,
+        change.before,
+        change.run,
+        change.after,
+    )
 }
 
 // Puts `middle`, with what may come before and after it, in the place of the rows from `from` to `to` among the first `count`.
-fn replace<T: Copy>(rows: &mut [T], count: usize, from: usize, to: usize, before: Option<T>, middle: T, after: Option<T>) -> usize
+fn replace<T: Copy>(
+    rows: &mut [T],
+    count: usize,
+    from: usize,
+    to: usize,
+    before: Option<T>,
+    middle: T,
+    after: Option<T>,
+) -> usize
     requires ordered { ⌜ from ≤ to ⌝ }
     requires within { ⌜ to ≤ count ⌝ }
     requires fits { ⌜ count ≤ length (now rows) ⌝ }

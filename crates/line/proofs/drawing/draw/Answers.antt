@@ -17,10 +17,11 @@ pub loop-count-again : need.loop-count-again
 loop-count-again g c =
     let f = g .F·Labelling .label (c .args .labelling .now) in
     let inside = g .Spot·Point·met .inside (c .in-Some .after) in
-    let more = counted-more (g .Tag·Label .alike) (g .Tag·Label·met .tells) f (g .Spot·Point .size) _ _ _ _ (c .stretch-label .ensures) (c .in-Some .ensures tt) inside in
-    (omega arith,
-     begun-more (g .Spot·Point .place) f (g .Spot·Point .size) (c .loop-count .rows) (c .loop-count .count) _ (c .loop-count-test .taken) (c .loop-count .inv .1) (c .stretch-label .ensures) _ (c .in-Some .ensures tt) inside,
-     rest-more (c .loop-count .rows) (c .args .rows .now) (c .loop-count .count) _ (c .loop-count .inv .2))
+    let more = counted-more (g .Tag·Label .alike) (g .Tag·Label·met .tells) f (g .Spot·Point .size) _ _ _ _ (c .stretch-label .ensures) (c .in-Some .ensures tt) inside in (
+      omega arith,
+      begun-more (g .Spot·Point .place) f (g .Spot·Point .size) (c .loop-count .rows) (c .loop-count .count) _ (c .loop-count-test .taken) (c .loop-count .inv .1) (c .stretch-label .ensures) _ (c .in-Some .ensures tt) inside,
+      rest-more (c .loop-count .rows) (c .args .rows .now) (c .loop-count .count) _ (c .loop-count .inv .2),
+    )
 
 pub returns-in-None : need.returns-in-None
 returns-in-None g c =

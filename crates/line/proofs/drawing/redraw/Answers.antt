@@ -21,12 +21,13 @@ returns g c =
     let fits : n + k ≤ length rows = omega (arith, drawn .fits) in
     let len = filled-length blank rows ys n k fits (c .fill .ensures) in
     let none : drop (n + k) rows ≡ _ = drop-all (n + k) rows (omega (arith, drawn .fits)) in
-    let size : k ≡ length rows - n = omega (arith, drawn .fits) in
-    (c .draw-count .ensures .count,
-     record {
-       fits = omega (arith, drawn .fits);
-       line = subst (λ (zs : List (Run _ _)). Line (g .Spot·Point .place) (g .Spot·Point .size) (g .F·Labelling .label (c .args .labelling .now)) zs) (sym (filled-front blank rows ys n k fits (c .fill .ensures))) (drawn .line);
-       blanks =
-           filled-after blank rows ys n k fits (c .fill .ensures) ∙ ap (λ (zs : List (Run _ _)). replicate k blank ++ zs) none ∙ append-nil (replicate k blank)
-           ∙ ap (λ (m : ℕ). replicate m blank) (size ∙ ap (λ (m : ℕ). m - n) (sym len));
-     })
+    let size : k ≡ length rows - n = omega (arith, drawn .fits) in (
+      c .draw-count .ensures .count,
+      record {
+        fits = omega (arith, drawn .fits);
+        line = subst (λ (zs : List (Run _ _)). Line (g .Spot·Point .place) (g .Spot·Point .size) (g .F·Labelling .label (c .args .labelling .now)) zs) (sym (filled-front blank rows ys n k fits (c .fill .ensures))) (drawn .line);
+        blanks =
+            filled-after blank rows ys n k fits (c .fill .ensures) ∙ ap (λ (zs : List (Run _ _)). replicate k blank ++ zs) none ∙ append-nil (replicate k blank)
+            ∙ ap (λ (m : ℕ). replicate m blank) (size ∙ ap (λ (m : ℕ). m - n) (sym len));
+      },
+    )

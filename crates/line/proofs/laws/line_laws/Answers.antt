@@ -5,7 +5,7 @@ use Rattle.line.proofs.Counts.{needed-line, line-fewest}
 use Rattle.line.proofs.laws.line_laws.Needs as need
 
 pub returns : need.returns
-returns g c = 
+returns g c =
     let place = g .P·Point .place in
     let size = g .P·Point .size in
     let inside = g .P·Point·met .inside (c .args .-point .now) in

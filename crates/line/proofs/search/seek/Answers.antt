@@ -16,6 +16,6 @@ returns g c =
       within = lt;
       holds = λ j d.
           let holds = row-holds (pt .place) (pt .size) runs i (pt .place (c .args .p .now)) d j lt (g .P·Point·met .inside _) (λ h. inv .2 h d)
-              (λ h. let e : c .loop-low .high ≡ i + 1 = omega arith in rw e at (inv .3 (omega arith) d)) in
+          (λ h. let e : c .loop-low .high ≡ i + 1 = omega arith in rw e at (inv .3 (omega arith) d)) in
           record { from = holds .0; to = holds .1 };
     }

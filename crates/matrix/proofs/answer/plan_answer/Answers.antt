@@ -11,7 +11,7 @@ returns-in-Ok-write-plan g c =
     let loaded = c .in-Ok .ensures tt in
     let q = c .load-plan .last .plan in
     let e = ended (g .A·Address .text) (g .A·Point .place) (g .A·Point .size) (length (c .args .rows .now)) (c .args .text .now) _ (c .open-plan .result) q
-        (opened .made) (λ h. opened .shut h .0) (opened .long) (λ z. loaded .shut z .0) (λ a b. loaded .over a b .0) (loaded .loads) (loaded .long) in
+    (opened .made) (λ h. opened .shut h .0) (opened .long) (λ z. loaded .shut z .0) (λ a b. loaded .over a b .0) (loaded .loads) (loaded .long) in
     let plan = e .plan refl in
     record {
       made = e .made;
@@ -26,7 +26,7 @@ returns-in-Err-write-plan g c =
     let loaded = c .in-Ok .ensures tt in
     let q = c .load-plan .last .plan in
     let e = ended (g .A·Address .text) (g .A·Point .place) (g .A·Point .size) (length (c .args .rows .now)) (c .args .text .now) _ (c .open-plan .result) q
-        (opened .made) (λ h. opened .shut h .0) (opened .long) (λ z. loaded .shut z .0) (λ a b. loaded .over a b .0) (loaded .loads) (loaded .long) in
+    (opened .made) (λ h. opened .shut h .0) (opened .long) (λ z. loaded .shut z .0) (λ a b. loaded .over a b .0) (loaded .loads) (loaded .long) in
     let plan = e .plan refl in
     record {
       made = e .made;
@@ -40,7 +40,7 @@ returns-in-Ok-write-fault g c =
     let opened = c .open-plan .ensures in
     let loaded = c .in-Err .ensures tt in
     let e = ended (g .A·Address .text) (g .A·Point .place) (g .A·Point .size) (length (c .args .rows .now)) (c .args .text .now) _ (c .open-plan .result) (c .load-plan .last .plan)
-        (opened .made) (λ h. opened .shut h .0) (opened .long) (λ z. loaded .shut z .0) (λ a b. loaded .over a b .0) (loaded .loads) (loaded .long) in
+    (opened .made) (λ h. opened .shut h .0) (opened .long) (λ z. loaded .shut z .0) (λ a b. loaded .over a b .0) (loaded .loads) (loaded .long) in
     record {
       made = e .made;
       end = Some (c .in-Err .fault);
@@ -53,7 +53,7 @@ returns-in-Err-write-fault g c =
     let opened = c .open-plan .ensures in
     let loaded = c .in-Err .ensures tt in
     let e = ended (g .A·Address .text) (g .A·Point .place) (g .A·Point .size) (length (c .args .rows .now)) (c .args .text .now) _ (c .open-plan .result) (c .load-plan .last .plan)
-        (opened .made) (λ h. opened .shut h .0) (opened .long) (λ z. loaded .shut z .0) (λ a b. loaded .over a b .0) (loaded .loads) (loaded .long) in
+    (opened .made) (λ h. opened .shut h .0) (opened .long) (λ z. loaded .shut z .0) (λ a b. loaded .over a b .0) (loaded .loads) (loaded .long) in
     record {
       made = e .made;
       end = Some (c .in-Err .fault);

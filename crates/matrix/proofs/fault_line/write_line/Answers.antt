@@ -28,7 +28,7 @@ returns c =
     let e6 = c .put-field-end .ensures in
     let e7 = c .put-byte .ensures in
     let is = line-is (c .args .kind) (c .args .fault .now) w (c .layer .result) (c .number .result) (c .line .result) (c .field .result)
-        (c .word .ensures) (c .layer .ensures) (c .number .ensures ∙ ap number (c .cause .ensures)) (c .line .ensures) (c .field .ensures) in
+    (c .word .ensures) (c .layer .ensures) (c .number .ensures ∙ ap number (c .cause .ensures)) (c .line .ensures) (c .field .ensures) in
     let all = seven-length (codes "fault,") w x3 x4 x5 x6 x7 in
     let long = ap length is in
     record {

@@ -18,7 +18,7 @@ use Rattle.plan.proofs.fit.fit.Needs as need
 pub returns-then-run-ne0 : need.returns-then-run-ne0
 returns-then-run-ne0 g c = record {
   apt = zero-le;
-  judged = λ f line. 
+  judged = λ f line.
       let place = g .P·Point .place in
       let runs = c .args .runs .now in
       let at = c .in-Some .at in

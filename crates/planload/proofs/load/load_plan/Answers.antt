@@ -42,14 +42,16 @@ returns-then-text-gt-LONGEST g c = record {
 }
 
 pub loop-row-holds : need.loop-row-holds
-loop-row-holds g c =
-    (refl, refl,
-     λ ds made.
-       let new = c .new-rows .ensures in
-       let one : 1 ≡ c .new-rows .result .line + 1 = omega (arith, new .line) in
-       subst (λ (zs : List (List ℕ)). Goes (g .A·Address .text) (g .A·Point .place) (g .A·Point .size) (length (c .args .plan .now .rows .now)) ds (rows (c .args .text .now)) (c .args .plan .now) (c .new-rows .result .line + 1) zs) (sym (new .left))
-       (subst (λ (n : ℕ). Goes (g .A·Address .text) (g .A·Point .place) (g .A·Point .size) (length (c .args .plan .now .rows .now)) ds (rows (c .args .text .now)) (c .args .plan .now) n (rows (c .args .text .now))) one
-       (go-first (g .A·Address .text) (g .A·Point .place) (g .A·Point .size) (length (c .args .plan .now .rows .now)) ds (rows (c .args .text .now)) (c .args .plan .now) made)))
+loop-row-holds g c = (
+  refl,
+  refl,
+  λ ds made.
+      let new = c .new-rows .ensures in
+      let one : 1 ≡ c .new-rows .result .line + 1 = omega (arith, new .line) in
+      subst (λ (zs : List (List ℕ)). Goes (g .A·Address .text) (g .A·Point .place) (g .A·Point .size) (length (c .args .plan .now .rows .now)) ds (rows (c .args .text .now)) (c .args .plan .now) (c .new-rows .result .line + 1) zs) (sym (new .left))
+      (subst (λ (n : ℕ). Goes (g .A·Address .text) (g .A·Point .place) (g .A·Point .size) (length (c .args .plan .now .rows .now)) ds (rows (c .args .text .now)) (c .args .plan .now) n (rows (c .args .text .now))) one
+      (go-first (g .A·Address .text) (g .A·Point .place) (g .A·Point .size) (length (c .args .plan .now .rows .now)) ds (rows (c .args .text .now)) (c .args .plan .now) made)),
+)
 
 pub loop-row-again-in-Continue· : need.loop-row-again-in-Continue·
 loop-row-again-in-Continue· g c =
@@ -66,15 +68,17 @@ loop-row-again-in-Continue· g c =
     let after = c .next .last .self in
     let p = c .loop-row .plan in
     let q = c .load-row .last .plan in
-    let long : length (q .rows .now) ≡ most = got .long ∙ inv .0 in
-    (long, got .lent ∙ inv .1,
-     λ ds made.
-       let go = inv .2 ds made in
-       let e = got .loads (ds ++ go .m) (go .made) in
-       let next : before .line + 1 + 1 ≡ after .line + 1 = omega (arith, step .line, step .counted) in
-       subst (λ (n : ℕ). Goes text place size most ds all q n (rows-left after)) next
-       (go-on text place size most ds all p q (before .line + 1) (rows-left before) (row .bytes .now) (rows-left after) (step .left) (sym (c .if-not-is-passed-over .ensures tt)) go
-       (e .said) (e .says) (subst (λ (n : ℕ). Accepted size n (ds ++ go .m) (e .said)) long (e .accepted)) (e .made)))
+    let long : length (q .rows .now) ≡ most = got .long ∙ inv .0 in (
+      long,
+      got .lent ∙ inv .1,
+      λ ds made.
+          let go = inv .2 ds made in
+          let e = got .loads (ds ++ go .m) (go .made) in
+          let next : before .line + 1 + 1 ≡ after .line + 1 = omega (arith, step .line, step .counted) in
+          subst (λ (n : ℕ). Goes text place size most ds all q n (rows-left after)) next
+          (go-on text place size most ds all p q (before .line + 1) (rows-left before) (row .bytes .now) (rows-left after) (step .left) (sym (c .if-not-is-passed-over .ensures tt)) go
+          (e .said) (e .says) (subst (λ (n : ℕ). Accepted size n (ds ++ go .m) (e .said)) long (e .accepted)) (e .made)),
+    )
 
 pub loop-row-again : need.loop-row-again
 loop-row-again g c =
@@ -87,12 +91,14 @@ loop-row-again g c =
     let place = g .A·Point .place in
     let size = g .A·Point .size in
     let most = length (c .args .plan .now .rows .now) in
-    let all = rows (c .args .text .now) in
-    (inv .0, inv .1,
-     λ ds made.
-       let next : before .line + 1 + 1 ≡ after .line + 1 = omega (arith, step .line, step .counted) in
-       subst (λ (n : ℕ). Goes text place size most ds all (c .loop-row .plan) n (rows-left after)) next
-       (go-past text place size most ds all (c .loop-row .plan) (before .line + 1) (rows-left before) (row .bytes .now) (rows-left after) (step .left) (sym (c .if-not-is-passed-over .ensures tt)) (inv .2 ds made)))
+    let all = rows (c .args .text .now) in (
+      inv .0,
+      inv .1,
+      λ ds made.
+          let next : before .line + 1 + 1 ≡ after .line + 1 = omega (arith, step .line, step .counted) in
+          subst (λ (n : ℕ). Goes text place size most ds all (c .loop-row .plan) n (rows-left after)) next
+          (go-past text place size most ds all (c .loop-row .plan) (before .line + 1) (rows-left before) (row .bytes .now) (rows-left after) (step .left) (sym (c .if-not-is-passed-over .ensures tt)) (inv .2 ds made)),
+    )
 
 pub returns-in-Break-load-row : need.returns-in-Break-load-row
 returns-in-Break-load-row g c =
@@ -119,8 +125,8 @@ returns-in-Break-load-row g c =
           let why = got .loads (ds ++ go .m) (go .made) in
           let f : Fault = c .in-Break-load-row .field-0 .0 in
           let failed : Fails text place size most (ds ++ go .m) (before .line + 1) (row .bytes .now) f =
-              subst (λ (n : ℕ). Fails text place size most (ds ++ go .m) n (row .bytes .now) f) (step .line)
-              (subst (λ (n : ℕ). Fails text place size n (ds ++ go .m) (row .line) (row .bytes .now) f) (inv .0) why) in
+          subst (λ (n : ℕ). Fails text place size most (ds ++ go .m) n (row .bytes .now) f) (step .line)
+          (subst (λ (n : ℕ). Fails text place size n (ds ++ go .m) (row .line) (row .bytes .now) f) (inv .0) why) in
           let done = go-fault text place size most ds all p (before .line + 1) (rows-left before) (row .bytes .now) (rows-left after) f (step .left) (sym (c .if-not-is-passed-over .ensures tt)) go failed in
           let end : Some f ≡ fault-in (c .from-residual .result) = sym (ap fault-in (back .1) ∙ ap Some (back .2)) in
           outcome text place size most ds (c .args .text .now) (go .m) (Some f) (c .from-residual .result) q long

@@ -11,7 +11,7 @@ returns-in-Ok-declare g c =
     let read = c .in-Ok .ensures tt in
     let d : Declaration = record { name = e .name .now; low = place (e .low); high = place (e .high) } in
     let says : Says (g .A·Address .text) place (c .args .row .now) d =
-        record { first = e .low; last = e .high; shape = read .0; formed = read .1; low = refl; high = refl } in
+    record { first = e .low; last = e .high; shape = read .0; formed = read .1; low = refl; high = refl } in
     record {
       refused = zero-le;
       loads = λ ds made.
@@ -28,7 +28,7 @@ returns-in-Err-declare g c =
     let read = c .in-Ok .ensures tt in
     let d : Declaration = record { name = e .name .now; low = place (e .low); high = place (e .high) } in
     let says : Says (g .A·Address .text) place (c .args .row .now) d =
-        record { first = e .low; last = e .high; shape = read .0; formed = read .1; low = refl; high = refl } in
+    record { first = e .low; last = e .high; shape = read .0; formed = read .1; low = refl; high = refl } in
     record {
       refused = c .in-Err-declare .ensures tt .refused;
       loads = λ ds made. Fails.refused d (c .in-Err-declare .refusal) says (c .in-Err-declare .ensures tt .declared ds made) (c .new .ensures);

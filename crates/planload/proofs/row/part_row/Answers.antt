@@ -18,13 +18,15 @@ returns-then-eq c =
     let none = c .in-rest-next-4 .ensures tt in
     let a = c .new-fields .ensures .left in
     let shape = sym a ∙ one .left
-        ∙ ap (λ (q : List (List ℕ)). c .in-Some .word .bytes .now ∷ q) (two .left
-          ∙ ap (λ (q : List (List ℕ)). c .in-Some-next .name .bytes .now ∷ q) (three .left
-            ∙ ap (λ (q : List (List ℕ)). c .in-Some-next-2 .low .bytes .now ∷ q) (four .left
-              ∙ ap (λ (q : List (List ℕ)). c .in-Some-next-3 .high .bytes .now ∷ q) (none .0)))) in
+    ∙ ap (λ (q : List (List ℕ)). c .in-Some .word .bytes .now ∷ q) (two .left
+    ∙ ap (λ (q : List (List ℕ)). c .in-Some-next .name .bytes .now ∷ q) (three .left
+    ∙ ap (λ (q : List (List ℕ)). c .in-Some-next-2 .low .bytes .now ∷ q) (four .left
+    ∙ ap (λ (q : List (List ℕ)). c .in-Some-next-3 .high .bytes .now ∷ q) (none .0)))) in
     record {
       shape = shape ∙ ap (λ (q : List ℕ). q ∷ c .in-Some-next .name .bytes .now ∷ c .in-Some-next-2 .low .bytes .now ∷ c .in-Some-next-3 .high .bytes .now ∷ []) word;
-      numbers = (omega (arith, zero, one .number, one .counted, two .number),
-                 omega (arith, zero, one .number, one .counted, two .number, two .counted, three .number),
-                 omega (arith, zero, one .number, one .counted, two .number, two .counted, three .number, three .counted, four .number));
+      numbers = (
+        omega (arith, zero, one .number, one .counted, two .number),
+        omega (arith, zero, one .number, one .counted, two .number, two .counted, three .number),
+        omega (arith, zero, one .number, one .counted, two .number, two .counted, three .number, three .counted, four .number),
+      );
     }

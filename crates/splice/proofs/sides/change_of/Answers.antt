@@ -20,7 +20,7 @@ returns g c = record {
       let rows = c .args .runs .now in
       let new : Run _ _ = record { low = s .end; high = t .end; label = c .args .label } in
       let l = spliced place (g .P·Point .size) f _ (place (c .args .low)) (place (c .args .high)) (c .args .label) s t (spot .ordered) (g .P·Point·met .inside (t .end))
-          (c .side-before-before .ensures .led f _ spot) (c .side-after-after .ensures .follows f _ spot) in
+      (c .side-before-before .ensures .led f _ spot) (c .side-after-after .ensures .follows f _ spot) in
       let front = take (s .cut) rows in
       let tail = drop (t .cut) rows in
       subst (λ (zs : List (Run _ _)). Line place (g .P·Point .size) (over f (place (c .args .low)) (place (c .args .high)) (c .args .label)) zs)

@@ -45,10 +45,11 @@ returns g c = record {
       follows-plain (g .P·Point .place) (g .P·Point .size) f _ (c .args .at) r is low (c .args .high) (c .args .label) spot
       (ltb-false _ _ (sym (c .if-before .ensures tt)))
       (λ lt q isq same. elim (c .if-at-runs .came) [
-          then-at-runs·else-eq w ↦
+        | then-at-runs·else-eq w ↦
             let there = w .index-runs-at-then-at-runs .is in
             let it = w .index-runs-at-then-at-runs .result in
             let e : it ≡ q = there ∙ getD-default runs (c .args .at + 1) it q (omega arith) ∙ isq in
             false≢true (g .L·Label·met .told _ _ false (w .if-eq .ensures tt) .1 (ap (λ (z : Run _ _). z .label) e ∙ same))
-        | else-at-runs w ↦ omega (arith, w .if-at-runs .left) ]);
+        | else-at-runs w ↦ omega (arith, w .if-at-runs .left)
+      ]);
 }

@@ -45,10 +45,11 @@ returns g c = record {
       led-plain (g .P·Point .place) (g .P·Point .size) f _ (c .args .at) r is (c .args .low) high (c .args .label) spot
       (ltb-false _ _ (sym (c .if-before .ensures tt)))
       (λ pos q isq same. elim (c .if-at-gt0 .came) [
-          then-at-gt0·else-eq w ↦
+        | then-at-gt0·else-eq w ↦
             let there = w .index-runs-at-then-at-gt0 .is in
             let it = w .index-runs-at-then-at-gt0 .result in
             let e : it ≡ q = there ∙ getD-default runs (c .args .at - 1) it q (omega arith) ∙ isq in
             false≢true (g .L·Label·met .told _ _ false (w .if-eq .ensures tt) .1 (ap (λ (z : Run _ _). z .label) e ∙ same))
-        | else-at-gt0 w ↦ omega (arith, w .if-at-gt0 .left) ]);
+        | else-at-gt0 w ↦ omega (arith, w .if-at-gt0 .left)
+      ]);
 }
