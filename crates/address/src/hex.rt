@@ -8,7 +8,7 @@ ghost use Rattle.text.specs.Buffers.{put};
 use text::put_byte;
 
 // The value of a hexadecimal digit.
-fn read_digit(b: u8) -> Option<u8>
+pub fn read_digit(b: u8) -> Option<u8>
     ensures { λ r. ⌜ BySome r ((d : ℕ) → d < 16 → digit d ≡ b → ⊥) (λ d. (d < 16) × (digit d ≡ b)) ⌝ }
 {
     match b as char {

@@ -1,8 +1,12 @@
 // IPv4 addresses.
 ghost use mathlib.Core.Path.{_≡_};
 ghost use Prim.Native.Nat.{_+_, _<_, _^_};
+ghost use Rattle.address.specs.Layouts.{layout4};
 ghost use Rattle.address.specs.Texts.{text4};
 use crate::Address;
+use crate::Header;
+use crate::bytes::read_u16;
+use crate::bytes::read_u32;
 use crate::dotted::read_dotted;
 use crate::dotted::write_dotted;
 use line::Point;
@@ -99,5 +103,31 @@ pub impl Address for Ipv4 as Ipv4Address {
         let c = write_dotted(value / 65536 % 256, out, b);
         let d = write_dotted(value / 256 % 256, out, c);
         write_number(value % 256, out, d)
+    }
+
+    ghost layout = { layout4 };
+
+    fn begins(first: u8) -> bool {
+        first / 16 == 4 && first % 16 >= 5
+    }
+
+    fn read_header(bytes: &[u8]) -> Option<Header<Self>> {
+        let [first, ..] = bytes else {
+            return None;
+        };
+        let end = (*first % 16) as usize * 4;
+        if !Ipv4Address::begins(*first) {
+            return None;
+        }
+        if bytes.len() < end {
+            return None;
+        }
+        Some(Header {
+            source: Ipv4::new(read_u32(bytes, 12)),
+            destination: Ipv4::new(read_u32(bytes, 16)),
+            protocol: bytes[9],
+            end,
+            later: read_u16(bytes, 6) % 8192 > 0,
+        })
     }
 }

@@ -1,8 +1,11 @@
 // IPv6 addresses.
 ghost use mathlib.Core.Path.{_≡_};
 ghost use Prim.Native.Nat.{_+_, _*_, _<_, _^_};
+ghost use Rattle.address.specs.Layouts.{layout6};
 ghost use Rattle.address.specs.Texts.{text6};
 use crate::Address;
+use crate::Header;
+use crate::bytes::read_u64;
 use crate::hex::read_four;
 use crate::hex::write_four;
 use line::Point;
@@ -118,5 +121,30 @@ pub impl Address for Ipv6 as Ipv6Address {
         let end = write_four(self.high, out, at);
         let next = put_byte(out, end, b':');
         write_four(self.low, out, next)
+    }
+
+    ghost layout = { layout6 };
+
+    fn begins(first: u8) -> bool {
+        first / 16 == 6
+    }
+
+    fn read_header(bytes: &[u8]) -> Option<Header<Self>> {
+        let [first, ..] = bytes else {
+            return None;
+        };
+        if !Ipv6Address::begins(*first) {
+            return None;
+        }
+        if bytes.len() < 40 {
+            return None;
+        }
+        Some(Header {
+            source: Ipv6::new(read_u64(bytes, 8), read_u64(bytes, 16)),
+            destination: Ipv6::new(read_u64(bytes, 24), read_u64(bytes, 32)),
+            protocol: bytes[6],
+            end: 40,
+            later: false,
+        })
     }
 }

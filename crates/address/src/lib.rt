@@ -1,6 +1,8 @@
-// The two kinds of addresses: points of a line that have a text.
+// The two kinds of addresses: points of a line that have a text, and the heads of the packets between them.
 mod address;
+mod bytes;
 mod dotted;
+mod header;
 mod hex;
 mod ipv4;
 mod ipv6;
@@ -8,6 +10,9 @@ mod ipv6;
 mod tests;
 
 pub use address::Address;
+pub use header::Header;
+pub use header::HeaderClone;
+pub use hex::read_digit;
 pub use ipv4::Ipv4;
 pub use ipv4::Ipv4Address;
 pub use ipv4::Ipv4Point;

@@ -1,9 +1,11 @@
--- The laws of the texts of IPv6 addresses.
+-- The laws of the texts of IPv6 addresses, and of the heads of their packets.
 use native.Mathlib.Omega.{arith}
-use mathlib.Core.Path.{_≡_, ap, _∙_}
-use Prim.Native.Nat.{ℕ, _+_, _*_, _^_}
+use mathlib.Core.Path.{_≡_, refl, ap, _∙_}
+use Prim.Native.Nat.{ℕ, _+_, _*_, _^_, _≤_}
+use lib.ListN.{length}
 use Rattle.address.specs.Texts.{text6}
 use Rattle.address.proofs.Groups.{long6, plain6, same6}
+use Rattle.address.proofs.Heads.{number-append}
 use Rattle.address.proofs.ipv6.Ipv6Address.the-impl.Needs as need
 
 pub short-law : need.short-law
@@ -23,3 +25,14 @@ told-law a b e =
     let h : a .high ≡ b .high = omega (arith, a .«low_fits», b .«low_fits») in
     let l : a .low ≡ b .low = omega (arith, a .«low_fits», b .«low_fits») in
     ap (λ (x : ℕ). text6 x (a .low)) h ∙ ap (λ (x : ℕ). text6 (b .high) x) l
+
+pub steady-law : need.steady-law
+steady-law bytes more w =
+    let long : 40 ≤ length bytes = w .within in
+    record {
+      end = refl;
+      later = refl;
+      protocol = number-append bytes more 6 1 (omega arith);
+      source = number-append bytes more 8 16 (omega arith);
+      destination = number-append bytes more 24 16 (omega arith);
+    }
