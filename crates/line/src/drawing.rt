@@ -3,8 +3,7 @@ ghost use mathlib.Core.Path.{_≡_};
 ghost use Prim.Native.Nat.{ℕ, _+_, _<_, _≤_};
 ghost use lib.ListN.{length, replicate};
 ghost use denote.Ref.{now};
-ghost use Rattle.std.specs.Options.{Cases as BySome};
-ghost use Rattle.line.specs.Line.{Keeps, Stretch, runs-needed, Drawn, Listed};
+ghost use Rattle.line.specs.Line.{Stretch, runs-needed, Drawn, Counted, Redrawn};
 use crate::Label;
 use crate::Labelling;
 use crate::Point;
@@ -30,7 +29,7 @@ fn stretch<F: Labelling>(labelling: &F, from: &F::Spot) -> (F::Tag, F::Spot)
 // How many runs the line of the labelling has, if they are at most `most`.
 pub fn needed<F: Labelling>(labelling: &F, most: usize) -> Option<usize>
     requires { ⌜ F·Labelling .ready (now labelling) ⌝ }
-    ensures { λ r. ⌜ BySome r (most < runs-needed (Tag·Label .alike) (Spot·Point .size) (F·Labelling .label (now (labelling .entry)))) (λ n. (n ≡ runs-needed (Tag·Label .alike) (Spot·Point .size) (F·Labelling .label (now (labelling .entry)))) × (n ≤ most)) ⌝ }
+    ensures { λ r. ⌜ Counted (Tag·Label .alike) (Spot·Point .size) (F·Labelling .label (now (labelling .entry))) most r ⌝ }
 {
     let mut from = F::Spot::first();
     let mut count = 0;
@@ -86,7 +85,7 @@ pub fn redraw<F: Labelling>(
     blank: Run<F::Spot, F::Tag>,
 ) -> Option<usize>
     requires { ⌜ F·Labelling .ready (now labelling) ⌝ }
-    ensures { λ r. ⌜ BySome r ((length (now (rows .entry)) < runs-needed (Tag·Label .alike) (Spot·Point .size) (F·Labelling .label (now (labelling .entry)))) × (now (rows .exit) ≡ now (rows .entry))) (λ n. (n ≡ runs-needed (Tag·Label .alike) (Spot·Point .size) (F·Labelling .label (now (labelling .entry)))) × Listed (Spot·Point .place) (Spot·Point .size) blank (F·Labelling .label (now (labelling .entry))) n (now (rows .exit))) ⌝ }
+    ensures { λ r. ⌜ Redrawn (Spot·Point .place) (Spot·Point .size) (Tag·Label .alike) blank (F·Labelling .label (now (labelling .entry))) (now (rows .entry)) (now (rows .exit)) r ⌝ }
 {
     let most = rows.len();
     let Some(_) = needed(labelling, most) else {

@@ -1,9 +1,10 @@
 -- Names of networks, and the numbers that they have in a list of names.
+use mathlib.Core.Path.{_≡_}
 use mathlib.Core.List.{List, [], _∷_, _++_}
 use mathlib.Core.Bool.{Bool, true, cond, _&&_, not}
-use Prim.Native.Nat.{ℕ, _+_}
+use Prim.Native.Nat.{ℕ, _+_, _-_, _≤_}
 use lib.Dec.{leb, eqb}
-use lib.ListN.{length}
+use lib.ListN.{length, getD}
 use lib.Chars.{codes}
 use Rattle.std.specs.shelf.Text.{sameBytes}
 use Rattle.std.specs.declared.option.Option.{Option}
@@ -30,6 +31,10 @@ number-in (n ∷ names) name = cond (sameBytes n name) 1 (number-in names name +
 -- the number of a name that is among the names
 abbrev pub declared : List (List ℕ) → List ℕ → Option ℕ
 declared names name = cond (leb (number-in names name) (length names)) (Some (number-in names name)) None
+
+-- the text is the name with this number
+abbrev pub Numbered : List (List ℕ) → ℕ → List ℕ → Type 0
+Numbered names number text = (1 ≤ number) × (number ≤ length names) × (text ≡ getD names (number - 1) [])
 
 -- the names, with this one at the end where they lack it
 abbrev pub with-name : List (List ℕ) → List ℕ → List (List ℕ)

@@ -5,7 +5,7 @@ ghost use Prim.Native.Nat.{ℕ, _+_, _-_, _<_, _≤_};
 ghost use lib.ListN.{length, getD};
 ghost use Rattle.std.specs.Options.{Cases as BySome};
 ghost use Rattle.names.specs.Texts.{text-of, texts};
-ghost use Rattle.names.specs.Names.{number-in, declared};
+ghost use Rattle.names.specs.Names.{number-in, declared, Numbered};
 use crate::Names;
 use crate::name::Name;
 
@@ -87,7 +87,7 @@ impl Names {
 
     // The name with this number.
     pub fn text(&self, number: u8) -> Option<&[u8]>
-        ensures { λ r. ⌜ BySome r (1 ≤ number → length (texts (now (self .entry))) < number) (λ t. (1 ≤ number) × (number ≤ length (texts (now (self .entry)))) × (now t ≡ getD (texts (now (self .entry))) (number - 1) [])) ⌝ }
+        ensures { λ r. ⌜ BySome r (1 ≤ number → length (texts (now (self .entry))) < number) (λ t. Numbered (texts (now (self .entry))) number (now t)) ⌝ }
     {
         if number == 0 || number as usize > self.count {
             return None;

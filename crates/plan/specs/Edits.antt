@@ -6,7 +6,9 @@ use Prim.Native.Nat.{ℕ, _+_, _≤_, _<_}
 use lib.Dec.{leb}
 use lib.ListN.{length, take, drop}
 use denote.Ref.{now}
+use Rattle.std.specs.Results.{Cases}
 use Rattle.std.specs.shelf.Lists.{All}
+use Rattle.std.specs.declared.result.Result.{Result}
 use Rattle.std.specs.declared.option.Option.{Option}
 use Rattle.std.specs.declared.option.Option.the-variants.{Some, None}
 use Rattle.refusal.specs.declared.refusal.Refusal.{Refusal}
@@ -18,8 +20,8 @@ use Rattle.names.specs.Texts.{texts}
 use Rattle.plan.specs.declared.plan.Plan.{Plan}
 use Rattle.plan.specs.declared.plan.Edit.{Edit}
 use Rattle.plan.specs.Declarations.{Declaration, names-of, network-of}
-use Rattle.plan.specs.Accepted.{Sane, Free, Remains}
-use Rattle.plan.specs.Made.{Blank}
+use Rattle.plan.specs.Accepted.{Sane, Free, Remains, Refused}
+use Rattle.plan.specs.Made.{Blank, Made}
 
 -- the first of three checks that fails: the name is well formed, the range is not reversed, the names are not too many
 abbrev pub first-cause : Bool → Bool → Bool → Option Refusal
@@ -42,6 +44,10 @@ pub record Judged {A : Type 0} (place : A → ℕ) (size : ℕ) (ds : List Decla
   pub free : Free (network-of ds) (d .low) (d .high)
   pub remains : Remains size (network-of ds) (d .low) (d .high)
   pub line : Line place size (over (network-of ds) (d .low) (d .high) (e .number)) (changed (e .change) (take (p .count) (now (p .rows))))
+
+-- what judging the declaration d in the plan p answers, whatever declarations made p
+abbrev pub Judges : {A : Type 0} → (A → ℕ) → ℕ → Plan A → Declaration → Result (Edit A) Refusal → Type 0
+Judges place size p d r = (ds : List Declaration) → Made place size ds p → Cases r (Judged place size ds p d) (Refused size (length (now (p .rows))) ds d)
 
 -- the plan q is the plan p with the edit made
 pub record Entered {A : Type 0} (place : A → ℕ) (p q : Plan A) (name : List ℕ) (e : Edit A) : Type 0 where

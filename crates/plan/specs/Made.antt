@@ -6,14 +6,17 @@ use Prim.Native.Nat.{ℕ, _≤_, _<_}
 use lib.Dec.{leb}
 use lib.ListN.{length, take, drop}
 use denote.Ref.{now}
+use Rattle.std.specs.Results.{Cases}
 use Rattle.std.specs.shelf.Lists.{All}
+use Rattle.std.specs.declared.result.Result.{Result}
+use Rattle.refusal.specs.declared.refusal.Refusal.{Refusal}
 use Rattle.line.specs.declared.run.Run.{Run}
 use Rattle.line.specs.Line.{Line}
 use Rattle.names.specs.Names.{number-in}
 use Rattle.names.specs.Texts.{texts}
 use Rattle.plan.specs.declared.plan.Plan.{Plan}
 use Rattle.plan.specs.Declarations.{Declaration, names-of, network-of}
-use Rattle.plan.specs.Accepted.{Accepted, Accepts}
+use Rattle.plan.specs.Accepted.{Accepted, Refused, Accepts}
 
 -- a plan has 1 to 4,096 rows
 abbrev pub size-fits : ℕ → Bool
@@ -48,3 +51,7 @@ pub record Declared {A : Type 0} (place : A → ℕ) (size : ℕ) (ds : List Dec
   pub number : n ≡ number-in (names-of ds) (d .name)
   pub accepted : Accepted size (length (now (q .rows))) ds d
   pub made : Made place size (ds ++ d ∷ []) q
+
+-- what declaring d in the plan p answers, and the plan q after it, whatever declarations made p: d is entered, or refused by its first cause
+abbrev pub Declares : {A : Type 0} → (A → ℕ) → ℕ → Plan A → Declaration → Plan A → Result ℕ Refusal → Type 0
+Declares place size p d q r = (ds : List Declaration) → Made place size ds p → Cases r (Declared place size ds d q) (Refused size (length (now (p .rows))) ds d)

@@ -1,6 +1,5 @@
 // Declaring a range of addresses: all checks first, and then an edit that cannot fail.
 ghost use mathlib.Core.Path.{_≡_};
-ghost use mathlib.Core.List.{List};
 ghost use Prim.Native.Nat.{_≤_};
 ghost use lib.ListN.{length, take, drop};
 ghost use denote.Ref.{name as lender};
@@ -8,11 +7,9 @@ ghost use Rattle.std.specs.Results.{Cases};
 ghost use Rattle.std.specs.shelf.Lists.{All};
 ghost use Rattle.std.specs.declared.result.Result.the-variants.{Err};
 ghost use Rattle.refusal.specs.declared.refusal.Refusal.the-variants as cause;
-ghost use Rattle.plan.specs.Declarations.{Declaration};
-ghost use Rattle.plan.specs.Accepted.{Refused};
 ghost use Rattle.splice.specs.Changes.{changed, count-after, Apt};
-ghost use Rattle.plan.specs.Made.{Blank, Made, Shut, Declared, declaration};
-ghost use Rattle.plan.specs.Edits.{Safe, Judged, Entered, first-cause};
+ghost use Rattle.plan.specs.Made.{Blank, Shut, Declares, declaration};
+ghost use Rattle.plan.specs.Edits.{Safe, Judges, Entered, first-cause};
 use crate::Plan;
 use crate::fit::fit;
 use crate::plan::Edit;
@@ -69,7 +66,7 @@ impl<'a, A: Point> Plan<'a, A> {
     fn judge(&self, name: &[u8], low: A, high: A) -> Result<Edit<A>, Refusal>
         ensures shut { λ r. ⌜ (Shut (now (self .entry)) → r ≡ Err cause.Shut) ⌝ }
         ensures safe { λ r. ⌜ Cases r (Safe (now (self .entry)) (now (name .entry))) (λ _. 0 ≤ 0) ⌝ }
-        ensures judged { λ r. ⌜ ((ds : List Declaration) → Made (A·Point .place) (A·Point .size) ds (now (self .entry)) → Cases r (Judged (A·Point .place) (A·Point .size) ds (now (self .entry)) (declaration (A·Point .place) (now (name .entry)) low high)) (Refused (A·Point .size) (length (now (now (self .entry) .rows))) ds (declaration (A·Point .place) (now (name .entry)) low high))) ⌝ }
+        ensures judged { λ r. ⌜ Judges (A·Point .place) (A·Point .size) (now (self .entry)) (declaration (A·Point .place) (now (name .entry)) low high) r ⌝ }
     {
         let runs = self.runs();
         if runs.is_empty() {
@@ -102,7 +99,7 @@ impl<'a, A: Point> Plan<'a, A> {
     pub fn declare(&mut self, name: &[u8], low: A, high: A) -> Result<u8, Refusal>
         ensures shut { λ r. ⌜ (Shut (now (self .entry)) → r ≡ Err cause.Shut) ⌝ }
         ensures refused { λ r. ⌜ Cases r (λ _. 0 ≤ 0) (λ _. now (self .exit) ≡ now (self .entry)) ⌝ }
-        ensures declared { λ r. ⌜ ((ds : List Declaration) → Made (A·Point .place) (A·Point .size) ds (now (self .entry)) → Cases r (Declared (A·Point .place) (A·Point .size) ds (declaration (A·Point .place) (now (name .entry)) low high) (now (self .exit))) (Refused (A·Point .size) (length (now (now (self .entry) .rows))) ds (declaration (A·Point .place) (now (name .entry)) low high))) ⌝ }
+        ensures declared { λ r. ⌜ Declares (A·Point .place) (A·Point .size) (now (self .entry)) (declaration (A·Point .place) (now (name .entry)) low high) (now (self .exit)) r ⌝ }
         ensures long { λ _. ⌜ length (now (now (self .exit) .rows)) ≡ length (now (now (self .entry) .rows)) ⌝ }
         ensures lent { λ _. ⌜ lender (now (self .exit) .rows) ≡ lender (now (self .entry) .rows) ⌝ }
     {

@@ -1,14 +1,9 @@
 // Whether a range of a line can be given a label: it is free, it leaves a free place, and there are rows for it.
-ghost use mathlib.Core.Path.{_≡_};
 ghost use Prim.Native.Nat.{ℕ, _+_, _<_, _≤_};
 ghost use lib.ListN.{length};
-ghost use Rattle.std.specs.Orderings.{When};
-ghost use Rattle.std.specs.Places.{At};
 ghost use Rattle.std.specs.Results.{Cases};
-ghost use Rattle.line.specs.Line.{Line, over};
-ghost use Rattle.splice.specs.Changes.{Spot, changed, count-after, Apt};
-ghost use Rattle.plan.specs.Accepted.{Free, Fills, Remains};
-ghost use Rattle.plan.specs.Fit.{Unfit};
+ghost use Rattle.splice.specs.Changes.{count-after, Apt};
+ghost use Rattle.plan.specs.Fit.{Tells-fill, Fitted};
 use line::Point;
 use line::Run;
 use line::U8Label;
@@ -21,7 +16,7 @@ use splice::has_room;
 // Whether no place is free but those from `low` to `high`, which the run at `at` holds.
 fn fills<P: Point>(runs: &[Run<P, u8>], at: usize, low: &P, high: &P) -> bool
     requires { ⌜ at < length (now runs) ⌝ }
-    ensures { λ r. ⌜ ((f : ℕ → ℕ) (l : ℕ) → Spot (P·Point .place) (P·Point .size) f (now (runs .entry)) at (P·Point .place (now (low .entry))) (P·Point .place (now (high .entry))) l → At (λ w. w .label ≡ 0) (now (runs .entry)) at → When r (Fills (P·Point .size) f (P·Point .place (now (low .entry))) (P·Point .place (now (high .entry)))) (Remains (P·Point .size) f (P·Point .place (now (low .entry))) (P·Point .place (now (high .entry))))) ⌝ }
+    ensures { λ r. ⌜ Tells-fill (P·Point .place) (P·Point .size) (now (runs .entry)) at (P·Point .place (now (low .entry))) (P·Point .place (now (high .entry))) r ⌝ }
 {
     let run = runs[at];
     if run.low.before(low) {
@@ -54,7 +49,7 @@ pub(crate) fn fit<P: Point>(
     requires ordered { ⌜ P·Point .place low ≤ P·Point .place high ⌝ }
     requires labels { ⌜ 0 < label ⌝ }
     ensures apt { λ r. ⌜ Cases r (λ c. Apt (length (now (runs .entry))) c × (count-after c (length (now (runs .entry))) ≤ most)) (λ _. 0 ≤ 0) ⌝ }
-    ensures judged { λ r. ⌜ ((f : ℕ → ℕ) → Line (P·Point .place) (P·Point .size) f (now (runs .entry)) → Cases r (λ c. Free f (P·Point .place low) (P·Point .place high) × Remains (P·Point .size) f (P·Point .place low) (P·Point .place high) × Line (P·Point .place) (P·Point .size) (over f (P·Point .place low) (P·Point .place high) label) (changed c (now (runs .entry)))) (Unfit (P·Point .size) f (P·Point .place low) (P·Point .place high) label most)) ⌝ }
+    ensures judged { λ r. ⌜ Fitted (P·Point .place) (P·Point .size) (now (runs .entry)) most (P·Point .place low) (P·Point .place high) label r ⌝ }
 {
     let Some(at) = seek(runs, &low) else {
         unreachable()

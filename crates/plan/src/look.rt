@@ -87,7 +87,7 @@ impl<'a, A: Point> Plan<'a, A> {
     // The name of a network by its number; none where the plan is shut.
     pub fn name_of(&self, number: u8) -> Option<&[u8]>
         ensures shut { λ r. ⌜ (Shut (now (self .entry)) → BySome r (0 ≤ 0) (λ _. ⊥)) ⌝ }
-        ensures told { λ r. ⌜ ((ds : List Declaration) → Made (A·Point .place) (A·Point .size) ds (now (self .entry)) → BySome r (1 ≤ number → length (names-of ds) < number) (λ t. (1 ≤ number) × (number ≤ length (names-of ds)) × (now t ≡ getD (names-of ds) (number - 1) []))) ⌝ }
+        ensures told { λ r. ⌜ ((ds : List Declaration) → Made (A·Point .place) (A·Point .size) ds (now (self .entry)) → BySome r (1 ≤ number → length (names-of ds) < number) (λ t. said.Numbered (names-of ds) number (now t))) ⌝ }
     {
         if self.count == 0 {
             return None;

@@ -1,17 +1,14 @@
 // Loading a plan text: each row is declared, up to the first that is refused.
 ghost use mathlib.Core.Path.{_≡_};
-ghost use mathlib.Core.List.{List, [], _∷_, _++_};
-ghost use Prim.Native.Nat.{ℕ, _<_, _≤_};
+ghost use Prim.Native.Nat.{_<_, _≤_};
 ghost use lib.ListN.{length};
 ghost use denote.Ref.{name as lender};
 ghost use Rattle.std.specs.Results.{Cases};
 ghost use Rattle.std.specs.declared.result.Result.the-variants.{Err};
 ghost use Rattle.refusal.specs.declared.refusal.Refusal.the-variants as cause;
 ghost use Rattle.refusal.specs.Faults.{fault};
-ghost use Rattle.plan.specs.Declarations.{Declaration};
-ghost use Rattle.plan.specs.Made.{Made, Shut};
-ghost use Rattle.planload.specs.Loads.{Fails};
-ghost use Rattle.planload.specs.Outcome.{Added, Outcome};
+ghost use Rattle.plan.specs.Made.{Shut};
+ghost use Rattle.planload.specs.Outcome.{Adds-row, Adds-text};
 use crate::row::read_row;
 use address::Address;
 use plan::Plan;
@@ -25,7 +22,7 @@ const LONGEST: usize = 16384;
 // Declares what the row in a line says.
 fn load_row<A: Address>(plan: &mut Plan<'_, A>, row: &[u8], line: usize) -> Result<(), Fault>
     ensures refused { λ r. ⌜ Cases r (λ _. 0 ≤ 0) (λ _. now (plan .exit) ≡ now (plan .entry)) ⌝ }
-    ensures loads { λ r. ⌜ ((ds : List Declaration) → Made (A·Point .place) (A·Point .size) ds (now (plan .entry)) → Cases r (λ _. Added (A·Address .text) (A·Point .place) (A·Point .size) ds (now (row .entry)) (now (plan .exit))) (Fails (A·Address .text) (A·Point .place) (A·Point .size) (length (now (now (plan .entry) .rows))) ds line (now (row .entry)))) ⌝ }
+    ensures loads { λ r. ⌜ Adds-row (A·Address .text) (A·Point .place) (A·Point .size) (now (plan .entry)) line (now (row .entry)) (now (plan .exit)) r ⌝ }
     ensures long { λ _. ⌜ length (now (now (plan .exit) .rows)) ≡ length (now (now (plan .entry) .rows)) ⌝ }
     ensures lent { λ _. ⌜ lender (now (plan .exit) .rows) ≡ lender (now (plan .entry) .rows) ⌝ }
 {
@@ -42,7 +39,7 @@ fn load_row<A: Address>(plan: &mut Plan<'_, A>, row: &[u8], line: usize) -> Resu
 pub fn load_plan<A: Address>(plan: &mut Plan<'_, A>, text: &[u8]) -> Result<(), Fault>
     ensures shut { λ r. ⌜ (Shut (now (plan .entry)) → (r ≡ Err (fault cause.Shut 0 0)) × (now (plan .exit) ≡ now (plan .entry))) ⌝ }
     ensures over { λ r. ⌜ (0 < now (plan .entry) .count → 16384 < length (now (text .entry)) → (r ≡ Err (fault cause.TextTooLong 0 0)) × (now (plan .exit) ≡ now (plan .entry))) ⌝ }
-    ensures loads { λ r. ⌜ ((ds : List Declaration) → Made (A·Point .place) (A·Point .size) ds (now (plan .entry)) → length (now (text .entry)) ≤ 16384 → Outcome (A·Address .text) (A·Point .place) (A·Point .size) ds (now (text .entry)) r (now (plan .exit))) ⌝ }
+    ensures loads { λ r. ⌜ Adds-text (A·Address .text) (A·Point .place) (A·Point .size) (now (plan .entry)) (now (text .entry)) (now (plan .exit)) r ⌝ }
     ensures long { λ _. ⌜ length (now (now (plan .exit) .rows)) ≡ length (now (now (plan .entry) .rows)) ⌝ }
     ensures lent { λ _. ⌜ lender (now (plan .exit) .rows) ≡ lender (now (plan .entry) .rows) ⌝ }
 {
