@@ -34,5 +34,5 @@ impl<L: Label> Label for Option<L> {
 
     ghost tells = { Prim.search rules };
 
-    ghost told = { OptionLabelLemmas.told (λ x' y' r'. r' ≡ L.PartialEq.eq x' y') L.Label.told };
+    ghost told = { OptionLabelLemmas.told L.PartialEq.eq L.Label.told };
 }

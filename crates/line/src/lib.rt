@@ -1,4 +1,6 @@
 // Lines: every place of a finite scale has a label, and runs of places with one label follow one another.
+#![tactic(auto)]
+
 mod compare;
 mod drawing;
 mod label;

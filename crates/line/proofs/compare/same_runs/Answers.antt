@@ -10,8 +10,8 @@ pub returns-then-runs-others : goal.returns-then-runs-others
 returns-then-runs-others g c =
     (λ e. let z : ◌≡◌ {A = ℕ} 0 1 = cc in absurd (omega arith), λ e. absurd (omega (arith, outlines_long g.P.Point.place _ _ e)))
 
-pub returns-then-not-same-run : goal.returns-then-not-same-run
-returns-then-not-same-run g c =
+pub returns-then-not-same_run : goal.returns-then-not-same_run
+returns-then-not-same_run g c =
     let place = g.P.Point.place in
     let r = c.index-runs-i.result in
     let o = c.index-others-i.result in (
@@ -21,7 +21,7 @@ returns-then-not-same-run g c =
           let at = outlines_same place c.args.runs.now c.args.others.now e c.loop-i.i c.loop-i-test.true r in
           let left = subst (λ (w : Run _ _). SameRun place w (get_or c.args.others.now c.loop-i.i r)) (sym c.index-runs-i.is) at in
           let both = subst (λ (w : Run _ _). SameRun place r w) (get_or_default c.args.others.now c.loop-i.i r o (omega arith) ∙ sym c.index-others-i.is) left in
-          absurd (both_ways _ c.if-not-same-run.true (c.same-run.ensures.1 both)),
+          absurd (both_ways _ c.if-not-same_run.true (c.same_run.ensures.1 both)),
     )
 
 pub loop-i-preserved : goal.loop-i-preserved
@@ -31,7 +31,7 @@ loop-i-preserved g c =
     let o = c.index-others-i.result in
     below_more _ _ c.loop-i.invariant
     (λ d.
-    let same = c.same-run.ensures.0 c.if-not-same-run.false in
+    let same = c.same_run.ensures.0 c.if-not-same_run.false in
     let left = subst (λ (w : Run _ _). SameRun place w o) (c.index-runs-i.is ∙ get_or_default c.args.runs.now c.loop-i.i r d c.loop-i-test.true) same in
     subst (λ (w : Run _ _). SameRun place (get_or c.args.runs.now c.loop-i.i d) w) (c.index-others-i.is ∙ get_or_default c.args.others.now c.loop-i.i o d (omega arith)) left)
 

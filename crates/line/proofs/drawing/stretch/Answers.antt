@@ -1,6 +1,6 @@
-use Rattle.std.proofs.Common.{◌≡◌, Bool, true, false, sym, ap, ◌∙◌, arith}
+use Rattle.std.proofs.Common.{◌≡◌, Bool, true, false, refl, sym, ap, ◌∙◌, arith}
 use Rattle.line.proofs.drawing.stretch.Goals as goal
-use Rattle.line.proofs.drawing.stretch.Goals.{in-Some+then-ne, in-default}
+use Rattle.line.proofs.drawing.stretch.Goals.{in-Some+then-ne, in_default}
 
 pub returns : goal.returns
 returns g c = record {
@@ -11,8 +11,8 @@ returns g c = record {
         let next = w.in-Some.ensures in
         let other = w.piece-other.ensures.labelled _ (omega arith) w.piece-other.ensures.ordered in
         let test = w.if-ne.ensures in
-        let same = (g.met.F.Tag.Label.told _ _ _ test.1).1 (sym other ∙ ap f next ∙ e) in
-        grind (arith, test.2)
-    | in-default w ↦ omega (arith, w.in-default.ensures)
+        let same = (g.met.F.Tag.Label.told _ _ _ refl).1 (sym other ∙ ap f next ∙ e) in
+        grind (arith, test, same)
+    | in_default w ↦ omega (arith, w.in_default.ensures)
   ];
 }

@@ -7,7 +7,7 @@ pub returns : goal.returns
 returns g c =
     let place = g.P.Point.place in
     let size = g.P.Point.size in
-    let inside = g.met.P.Point.inside c.args.-point.now in
+    let inside = g.met.P.Point.inside c.args._point.now in
     let some : 0 < size = omega arith in
     record {
       one = λ f g' rows others a b. (line_tells place size f g' rows others a b, line_unique place size f g' rows others a b);

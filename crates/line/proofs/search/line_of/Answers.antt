@@ -6,7 +6,7 @@ use Rattle.line.proofs.search.line_of.Goals as goal
 pub loop-low-init : goal.loop-low-init
 loop-low-init g c =
     let inside = g.met.P.Point.inside c.first-first.result in
-    let long : 1 ≤ length c.args.rows.now = grind (arith, c.if-is-empty.ensures) in
+    let long : 1 ≤ length c.args.rows.now = grind (arith, c.if-is_empty.ensures) in
     (omega arith, long, omega arith, λ blank f n first listed. (listed_some g.P.Point.place g.P.Point.size (omega arith) blank first f n c.args.rows.now listed, listed.fits))
 
 pub loop-low-preserved-then-same : goal.loop-low-preserved-then-same
