@@ -1,8 +1,8 @@
 -- The line of a labelling as it is drawn, row by row.
-use Rattle.std.proofs.Common.{◌≡◌, ℕ, ◌+◌, ◌-◌, ◌<◌, ◌≤◌, List, [], ◌∷◌, ◌++◌, length, take, drop, set, sym, refl, ap, ◌∙◌, arith}
+use Rattle.std.proofs.Common.{◌≡◌, ℕ, ◌+◌, ◌-◌, ◌<◌, List, [], ◌∷◌, ◌++◌, length, take, drop, set, sym, refl, ap, ◌∙◌, arith}
 use Rattle.std.proofs.lemmas.List.{take_more_set, drop-set-lt, drop-drop}
 use Rattle.line.specs.declared.run.Run.{Run}
-use Rattle.line.specs.Line.{Keeps, Stretch, Joined, Painted, Differ, Line}
+use Rattle.line.specs.Line.{Stretch, Joined, Painted, Differ, Line}
 use Rattle.line.proofs.Rows.{joined_push, painted_push, differ_push}
 
 -- the rows of the line of f up to the place `at`, where its next run begins

@@ -1,7 +1,7 @@
 -- What follows from a list of runs being a line.
-use Rattle.std.proofs.Common.{◌≡◌, ℕ, zero, suc, ◌+◌, ◌-◌, ◌<◌, ◌≤◌, Bool, true, false, cond, ◌⊎◌, List, [], ◌∷◌, ◌++◌, map, length, get_or, Decides, sym, refl, ap, ◌∙◌, subst, inl, inr, add-one, arith}
+use Rattle.std.proofs.Common.{◌≡◌, ℕ, ◌+◌, ◌<◌, ◌≤◌, ◌⊎◌, List, [], ◌∷◌, sym, refl, ap, ◌∙◌, inl, inr, arith}
 use Rattle.line.specs.declared.run.Run.{Run}
-use Rattle.line.specs.Line.{Keeps, Joined, Painted, BeginsApart, Differ, Line, Outline, outline, changes, runs_needed}
+use Rattle.line.specs.Line.{Joined, Painted, BeginsApart, Differ, Line, Outline, outline}
 
 pub order : (m n : ℕ) → (m < n) ⊎ ((m ≡ n) ⊎ (n < m))
 order m n = grind arith

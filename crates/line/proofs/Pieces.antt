@@ -1,5 +1,5 @@
 -- Pieces of a labelling put together to stretches.
-use Rattle.std.proofs.Common.{◌≡◌, ℕ, ◌+◌, ◌<◌, ◌≤◌, ◌⊎◌, sym, refl, ap, ◌∙◌, inl, inr, arith}
+use Rattle.std.proofs.Common.{◌≡◌, ℕ, ◌+◌, sym, ap, ◌∙◌, inl, inr, arith}
 use Rattle.line.specs.Line.{Keeps, Stretch}
 use Rattle.line.proofs.Lines.{order}
 

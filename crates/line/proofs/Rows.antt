@@ -1,5 +1,5 @@
 -- The rows of a line by their number, and one row more.
-use Rattle.std.proofs.Common.{◌≡◌, ℕ, zero, suc, ◌+◌, ◌-◌, ◌<◌, ◌≤◌, ◌⊎◌, List, [], ◌∷◌, ◌++◌, length, get_or, take, set, sym, refl, ap, ◌∙◌, subst, inl, inr, zero-le, add-one, arith}
+use Rattle.std.proofs.Common.{◌≡◌, ℕ, zero, suc, ◌+◌, ◌-◌, ◌<◌, ◌≤◌, ◌⊎◌, List, [], ◌∷◌, ◌++◌, length, get_or, take, set, refl, ◌∙◌, inl, inr, zero-le, add-one, arith}
 use Rattle.line.specs.declared.run.Run.{Run}
 use Rattle.line.specs.Line.{Keeps, Joined, Painted, Differ, Line}
 use Rattle.line.proofs.Lines.{joined_le, order}

@@ -1,5 +1,5 @@
 -- What `==` answers of two optional labels tells whether they are equal.
-use Rattle.std.specs.Prelude.{◌≡◌, Bool, true, false, Some, None, Decides, Option, refl}
+use Rattle.std.specs.Prelude.{◌≡◌, Bool, Some, None, Decides, Option, refl}
 use Rattle.std.specs.Option.{option_eq}
 use Rattle.std.proofs.Common.{ap, arith}
 

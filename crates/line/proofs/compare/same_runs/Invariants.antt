@@ -1,4 +1,4 @@
-use Rattle.std.proofs.Common.{◌≡◌, ℕ, ◌<◌, get_or}
+use Rattle.std.proofs.Common.{ℕ, ◌<◌, get_or}
 use Rattle.line.specs.declared.run.Run.{Run}
 use Rattle.line.specs.Line.{SameRun}
 use Rattle.line.proofs.compare.same_runs.Given as goal

@@ -1,4 +1,4 @@
-use Rattle.std.proofs.Common.{◌≡◌, ℕ, ◌+◌, sym, refl, ap, ◌∙◌, arith, length-set}
+use Rattle.std.proofs.Common.{ℕ, ◌+◌, sym, refl, ap, ◌∙◌, arith, length-set}
 use Rattle.line.specs.Line.{changes}
 use Rattle.line.proofs.Counts.{changes_first, counted_more, counted_all, changes_below}
 use Rattle.line.proofs.Begun.{begun_none, begun_more, begun_all, rest_more}

@@ -1,4 +1,4 @@
-use Rattle.std.proofs.Common.{◌≡◌, ℕ, ◌+◌, sym, ap, ◌∙◌, arith}
+use Rattle.std.proofs.Common.{ℕ, ◌+◌, sym, ap, ◌∙◌, arith}
 use Rattle.line.specs.Line.{changes}
 use Rattle.line.proofs.Counts.{changes_first, counted_more, counted_all, changes_below}
 use Rattle.line.proofs.drawing.needed.Goals as goal

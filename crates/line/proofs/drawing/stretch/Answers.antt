@@ -1,4 +1,4 @@
-use Rattle.std.proofs.Common.{◌≡◌, Bool, true, false, refl, sym, ap, ◌∙◌, arith}
+use Rattle.std.proofs.Common.{refl, sym, ap, ◌∙◌, arith}
 use Rattle.line.proofs.drawing.stretch.Goals as goal
 use Rattle.line.proofs.drawing.stretch.Goals.{in-Some+then-ne, in_default}
 

@@ -1,4 +1,4 @@
-use Rattle.std.proofs.Common.{◌≡◌, sym, ◌∙◌, subst, arith}
+use Rattle.std.proofs.Common.{sym, subst, arith}
 use Rattle.line.specs.declared.run.Run.{Run}
 use Rattle.line.specs.Line.{Keeps}
 use Rattle.line.specs.Search.{Spans}
