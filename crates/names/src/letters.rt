@@ -26,8 +26,8 @@ pub fn is_well_formed(text: &[u8]) -> bool
     if text.len() < 1 || text.len() > 12 || !are_letters(text) {
         return false;
     }
-    if text == b"any" {
+    if text == b"any".as_slice() {
         return false;
     }
-    text != b"elsewhere"
+    text != b"elsewhere".as_slice()
 }

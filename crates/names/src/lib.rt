@@ -1,4 +1,6 @@
 // Names of networks: which texts are names, and up to 24 of them with their numbers.
+#![tactic(auto)]
+
 mod letters;
 mod name;
 mod table;

@@ -1,5 +1,5 @@
-use Rattle.std.proofs.Common.{◌≡◌, ◌+◌, map, take, drop}
-use Rattle.names.specs.Texts.{text_of, texts}
+use Rattle.std.proofs.Common.{◌≡◌, ◌+◌, drop}
+use Rattle.names.specs.Texts.{texts}
 use Rattle.names.specs.Names.{number_in}
 use Rattle.names.proofs.name.Names.number.Given as goal
 
