@@ -1,10 +1,10 @@
 -- Texts that a byte parts, and their rows and fields.
 use Rattle.std.specs.Prelude.{◌≡◌, ℕ, Bool, true, cond, List, [], ◌∷◌, ◌++◌, ◌==◌, ◌≢◌}
-use Rattle.std.specs.List.{AllByRecursion as All}
+use Rattle.std.specs.List.{AllByRecursion}
 
 -- no byte of the text is `stop`
 abbrev pub Lacks : ℕ → List ℕ → Type 0
-Lacks stop text = All (λ b. b ≢ stop) text
+Lacks stop text = AllByRecursion (λ b. b ≢ stop) text
 
 -- `front` is what stands before the first `stop` of the text, and `rest` what stands after it
 pub record Cut (stop : ℕ) (text front rest : List ℕ) : Type 0 where

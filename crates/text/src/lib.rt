@@ -1,4 +1,6 @@
 // Texts in parts, numbers in decimal digits, and texts that are written into a buffer.
+#![tactic(auto)]
+
 mod buffers;
 mod cuts;
 mod field;

@@ -12,13 +12,13 @@ fn an_empty_text_has_no_row(rt: HostRuntime) {
 fn the_last_row_needs_no_end(rt: HostRuntime) -> Result<(), Fail> {
     let mut rows = Rows::new(b"a\r\n\n#b");
     let first = rows.next().ok_or("no first row")?;
-    assert!(rt; first.bytes == b"a\r");
+    assert!(rt; first.bytes == b"a\r".as_slice());
     assert!(rt; !first.is_passed_over());
     let second = rows.next().ok_or("no second row")?;
     assert!(rt; second.is_passed_over());
     assert!(rt; second.start == 3 && second.line == 2);
     let third = rows.next().ok_or("no third row")?;
-    assert!(rt; third.bytes == b"#b");
+    assert!(rt; third.bytes == b"#b".as_slice());
     assert!(rt; third.is_passed_over());
     assert!(rt; rows.next().is_none());
     Ok(())
@@ -28,7 +28,7 @@ fn the_last_row_needs_no_end(rt: HostRuntime) -> Result<(), Fail> {
 fn the_last_field_may_be_empty(rt: HostRuntime) -> Result<(), Fail> {
     let mut fields = Fields::new(b"net,");
     let first = fields.next().ok_or("no first field")?;
-    assert!(rt; first.bytes == b"net");
+    assert!(rt; first.bytes == b"net".as_slice());
     let second = fields.next().ok_or("no second field")?;
     assert!(rt; second.bytes.is_empty());
     assert!(rt; second.number == 2);

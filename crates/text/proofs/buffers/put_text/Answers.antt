@@ -12,6 +12,6 @@ returns c =
     let n = length text in
     record {
       end = search rules;
-      wrote = put_mid-paste at (at + n - at) out c.copy-from-slice.new.self text n c.copy-from-slice.ensures.after (omega arith) refl
+      wrote = put_mid-paste at (at + n - at) out c.copy_from_slice.new.self text n c.copy_from_slice.ensures.after (omega arith) refl
           ∙ (append_assoc (take at out) (take n text) (drop (at + n) out) ∙ ap (λ (q : List ℕ). take at out ++ (q ++ drop (at + n) out)) (take_all n text (omega arith)));
     }

@@ -8,8 +8,8 @@ use Rattle.text.proofs.Decimals as decimals
 use Rattle.text.proofs.numbers.read_number.Goals as goal
 use Rattle.text.proofs.numbers.read_number.Goals.{else-first-eq48-via-then-first-eq48+else-rest-gt0, else-first-eq48-via-else-first-eq48}
 
-pub returns-in-default : goal.returns-in-default
-returns-in-default c n h e = let l = decimals.lengths c.args.bytes.now n (search rules) e in search rules
+pub returns-in_default : goal.returns-in_default
+returns-in_default c n h e = let l = decimals.lengths c.args.bytes.now n (search rules) e in search rules
 
 pub returns-then-bytes-gt10 : goal.returns-then-bytes-gt10
 returns-then-bytes-gt10 c n h e = let l = decimals.lengths c.args.bytes.now n (search rules) e in omega arith
@@ -26,13 +26,13 @@ returns-then-byte-lt48 c n h e = let d = decimals.digit c.args.bytes.now c.loop-
 pub returns-then-byte-gt57 : goal.returns-then-byte-gt57
 returns-then-byte-gt57 c n h e = let d = decimals.digit c.args.bytes.now c.loop-byte.byte-index (search rules) n (search rules) e in omega arith
 
-pub overflow-mul-number : goal.overflow-mul-number
-overflow-mul-number c =
+pub overflow_mul-number : goal.overflow_mul-number
+overflow_mul-number c =
     let l : length (take c.loop-byte.byte-index c.args.bytes.now) ≤ 9 = search (rules, length-take-le) in
     let s = decimals.small (take c.loop-byte.byte-index c.args.bytes.now) c.loop-byte.invariant.1 l in search rules
 
-pub overflow-add-number : goal.overflow-add-number
-overflow-add-number c =
+pub overflow_add-number : goal.overflow_add-number
+overflow_add-number c =
     let l : length (take c.loop-byte.byte-index c.args.bytes.now) ≤ 9 = search (rules, length-take-le) in
     let s = decimals.small (take c.loop-byte.byte-index c.args.bytes.now) c.loop-byte.invariant.1 l in search rules
 

@@ -8,23 +8,23 @@ pub returns-then-start-text : goal.returns-then-start-text
 unfolding rows_left
 returns-then-start-text c = (no_row c.args.self.now.text.now c.args.self.now.at c.if-start-text.true, refl)
 
-pub invariant-of-self : goal.invariant-of-self
-invariant-of-self c =
+pub invariant_of-self : goal.invariant_of-self
+invariant_of-self c =
     let text = c.args.self.now.text.now in
     let at = c.args.self.now.at in
-    let bytes = c.first-part-bytes.result.now in
-    let is = rest_part 10 text at bytes c.first-part-bytes.ensures in
+    let bytes = c.first_part-bytes.result.now in
+    let is = rest_part 10 text at bytes c.first_part-bytes.ensures in
     let short = part_short 10 text at bytes (omega arith) is in
     let counted = c.args.self.now.counted in
-    (omega arith, (omega arith, tt))
+    record { within = omega arith; counted = omega arith }
 
 pub returns : goal.returns
 unfolding rows_left bytes_left
 returns c =
     let text = c.args.self.now.text.now in
     let at = c.args.self.now.at in
-    let bytes = c.first-part-bytes.result.now in
-    let is = rest_part 10 text at bytes c.first-part-bytes.ensures in
+    let bytes = c.first_part-bytes.result.now in
+    let is = rest_part 10 text at bytes c.first_part-bytes.ensures in
     let inside : at < length text = c.if-start-text.false in
     record {
       left = next_row text at bytes inside is;
