@@ -2,4 +2,4 @@ pub mod Line
 pub mod Search
 pub mod Laws
 pub mod Alike
-pub mod OptionLabelLemmas
+pub mod LabelLemmas

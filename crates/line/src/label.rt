@@ -2,7 +2,7 @@
 ghost use Rattle.std.specs.Prelude.{◌≡◌, Bool, Decides, nat_eq};
 ghost use Rattle.line.specs.Alike.{alike_options};
 ghost use Rattle.std.proofs.Common.{rules};
-ghost use Rattle.line.specs.OptionLabelLemmas;
+ghost use Rattle.line.specs.LabelLemmas.{numbers_tell, options_tell, options_told};
 
 // A kind of label. `alike` tells whether two labels are equal, and so does what `==` answers.
 pub trait Label: Copy + PartialEq {
@@ -16,7 +16,7 @@ pub trait Label: Copy + PartialEq {
 impl Label for u8 {
     ghost alike = { nat_eq };
 
-    ghost tells = { Prim.search rules };
+    ghost tells = { numbers_tell };
 
     ghost told = { Prim.search rules };
 }
@@ -24,7 +24,7 @@ impl Label for u8 {
 impl Label for u16 {
     ghost alike = { nat_eq };
 
-    ghost tells = { Prim.search rules };
+    ghost tells = { numbers_tell };
 
     ghost told = { Prim.search rules };
 }
@@ -32,7 +32,7 @@ impl Label for u16 {
 impl<L: Label> Label for Option<L> {
     ghost alike = { alike_options L.Label.alike };
 
-    ghost tells = { Prim.search rules };
+    ghost tells = { options_tell L.Label.alike L.Label.tells };
 
-    ghost told = { OptionLabelLemmas.told L.PartialEq.eq L.Label.told };
+    ghost told = { options_told L.PartialEq.eq L.Label.told };
 }
