@@ -1,4 +1,6 @@
 // A line with a new run: what a label laid over a part of a run makes of the runs around it.
+#![tactic(auto)]
+
 mod change;
 mod rows;
 mod sides;

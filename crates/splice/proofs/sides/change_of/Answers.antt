@@ -11,12 +11,12 @@ returns g c = record {
   apt = record { ordered = omega arith; within = omega arith };
   line = λ f spot.
       let place = g.P.Point.place in
-      let s = c.side-before-before.result in
-      let t = c.side-after-after.result in
+      let s = c.side_before-before.result in
+      let t = c.side_after-after.result in
       let rows = c.args.runs.now in
       let new : Run _ _ = record { low = s.end; high = t.end; label = c.args.label } in
       let l = spliced place g.P.Point.size f _ (place c.args.low) (place c.args.high) c.args.label s t spot.ordered (g.met.P.Point.inside t.end)
-      (c.side-before-before.ensures.led f _ spot) (c.side-after-after.ensures.follows f _ spot) in
+      (c.side_before-before.ensures.led f _ spot) (c.side_after-after.ensures.follows f _ spot) in
       let front = take s.cut rows in
       let tail = drop t.cut rows in
       subst (λ (zs : List (Run _ _)). Line place g.P.Point.size (over f (place c.args.low) (place c.args.high) c.args.label) zs)
