@@ -1,5 +1,5 @@
 -- The number of each cause, its layer, and which causes have a line and a field.
-use Rattle.std.specs.Prelude.{List, [], ◌∷◌, Bool, true, false, cond, not, ℕ, eqb}
+use Rattle.std.specs.Prelude.{List, [], ◌∷◌, Bool, true, false, cond, not, ℕ, ◌==◌}
 use Rattle.refusal.specs.declared.refusal.Refusal.{Refusal}
 use Rattle.refusal.specs.declared.refusal.Refusal.TheVariants.{WrongSize, Shut, TooManyRules, IdNotFree, NoSuchRule, PositionTooHigh, WrongNetwork, PortsNotAllowed, SheetTooLong, RangeReversed, RangeTaken, PlanFull, NothingElsewhere, PacketTooShort, WrongHeader, LaterFragment, WrongRow, FieldMalformed, NameNotDeclared, TooManyNames, RulesHeld, TextTooLong, BufferTooShort}
 
@@ -32,7 +32,7 @@ number BufferTooShort = 23
 -- whether n is one of these numbers
 abbrev pub among : ℕ → List ℕ → Bool
 among n [] = false
-among n (k ∷ ks) = cond (eqb n k) true (among n ks)
+among n (k ∷ ks) = cond (n == k) true (among n ks)
 
 -- what a cause is about: 1 a field, 2 a row, 3 the plan or the ruleset
 abbrev pub layer : Refusal → ℕ
@@ -44,4 +44,4 @@ has_line c = not (among (number c) (1 ∷ 2 ∷ 7 ∷ 9 ∷ 21 ∷ 22 ∷ []))
 
 -- a field stands only in the layer of fields
 abbrev pub has_field : Refusal → Bool
-has_field c = eqb (layer c) 1
+has_field c = layer c == 1

@@ -1,4 +1,6 @@
 // Why a call is refused: the causes with their numbers, and the fault that a load returns.
+#![tactic(auto)]
+
 mod fault;
 mod refusal;
 
