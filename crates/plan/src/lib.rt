@@ -1,4 +1,6 @@
 // The address plan: networks with names, declared range by range over one line of addresses.
+#![tactic(auto)]
+
 mod declare;
 mod fit;
 mod look;

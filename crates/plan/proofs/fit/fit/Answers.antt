@@ -72,8 +72,8 @@ returns-then-fills g c = record {
       Unfit.fills free told;
 }
 
-pub returns-then-not-has-room : goal.returns-then-not-has-room
-returns-then-not-has-room g c = record {
+pub returns-then-not-has_room : goal.returns-then-not-has_room
+returns-then-not-has_room g c = record {
   apt = zero-le;
   judged = λ f line.
       let place = g.P.Point.place in
@@ -95,18 +95,18 @@ returns-then-not-has-room g c = record {
       let spot = make_spot place size f runs at r within c.index-runs-at.is low high c.args.label line c.requires.ordered begins ends e c.requires.labels in
       let free = all_free place size f _ at low high r (is r) line in_rows e begins ends in
       let told = c.if-fills.ensures f c.args.label spot (λ d. ap (λ (w : Run _ ℕ). w.label) (is d) ∙ e) in
-      let change = c.change-of-change.result in
+      let change = c.change_of-change.result in
       let inside = g.met.P.Point.inside c.args.low in
       let pos : 0 < size = omega arith in
-      let len = length_changed change runs c.change-of-change.ensures.apt in
-      let full = leb-false _ _ (sym c.if-not-has-room.ensures) in
-      let needs = needed_line eqb Decides-eqb (over f low high c.args.label) place size _ pos (c.change-of-change.ensures.line f spot) in
+      let len = length_changed change runs c.change_of-change.ensures.apt in
+      let full = leb-false _ _ (sym c.if-not-has_room.ensures) in
+      let needs = needed_line eqb Decides-eqb (over f low high c.args.label) place size _ pos (c.change_of-change.ensures.line f spot) in
       Unfit.full free told (omega arith);
 }
 
 pub returns : goal.returns
 returns g c = record {
-  apt = (c.change-of-change.ensures.apt, leb-true _ _ (sym c.if-not-has-room.ensures));
+  apt = (c.change_of-change.ensures.apt, leb-true _ _ (sym c.if-not-has_room.ensures));
   judged = λ f line.
       let place = g.P.Point.place in
       let size = g.P.Point.size in
@@ -127,5 +127,5 @@ returns g c = record {
       let spot = make_spot place size f runs at r within c.index-runs-at.is low high c.args.label line c.requires.ordered begins ends e c.requires.labels in
       let free = all_free place size f _ at low high r (is r) line in_rows e begins ends in
       let told = c.if-fills.ensures f c.args.label spot (λ d. ap (λ (w : Run _ ℕ). w.label) (is d) ∙ e) in
-      (free, told, c.change-of-change.ensures.line f spot);
+      (free, told, c.change_of-change.ensures.line f spot);
 }

@@ -8,10 +8,10 @@ returns-then-edit-count g c =
     let ns = c.args.self.now.names in
     record {
       entered = record {
-        count = c.change-rows-self.ensures.count;
-        long = c.change-rows-self.auto.rows;
-        rows = c.change-rows-self.ensures.list;
-        blank = c.change-rows-self.ensures.blank;
+        count = c.change_rows-self.ensures.count;
+        long = c.change_rows-self.auto.rows;
+        rows = c.change_rows-self.ensures.list;
+        blank = c.change_rows-self.ensures.blank;
         names =
             c.add.ensures
             ∙ sym (cond-false _ (texts ns) (texts ns ++ c.args.name.now ∷ []) (lt-leb c.args.edit.now.number (length (texts ns)) (omega (arith, c.if-edit-count.true, c.count.ensures))));
@@ -24,10 +24,10 @@ returns-else-edit-count g c =
     let ns = c.args.self.now.names in
     record {
       entered = record {
-        count = c.change-rows-self.ensures.count;
-        long = c.change-rows-self.auto.rows;
-        rows = c.change-rows-self.ensures.list;
-        blank = c.change-rows-self.ensures.blank;
+        count = c.change_rows-self.ensures.count;
+        long = c.change_rows-self.auto.rows;
+        rows = c.change_rows-self.ensures.list;
+        blank = c.change_rows-self.ensures.blank;
         names = sym (cond-true _ (texts ns) (texts ns ++ c.args.name.now ∷ []) (le-leb c.args.edit.now.number (length (texts ns)) (omega (arith, c.if-edit-count.false, c.count.ensures))));
       };
       lent = refl;
