@@ -19,8 +19,8 @@ short4 v h =
     simp length-append (omega arith)
 
 -- an IPv4 text has only digits and dots
-pub plain4 : (stop v : ℕ) → stop < 46 → v < 2 ^ 32 → Lacks stop (text4 v)
-plain4 stop v low h =
+pub lacks4 : (stop v : ℕ) → stop < 46 → v < 2 ^ 32 → Lacks stop (text4 v)
+lacks4 stop v low h =
     let P : ℕ → Type 0 = λ b. b ≡ stop → ⊥ in
     let dot : 46 ≡ stop → ⊥ = λ e. omega arith in
     let d3 : List ℕ = 46 ∷ decimal (v % 256) in
@@ -31,6 +31,10 @@ plain4 stop v low h =
       All-append P (decimal (v / 2 ^ 16 % 256)) d2 (decimal_lacks stop (v / 2 ^ 16 % 256) (omega arith) (omega arith))
           (dot, All-append P (decimal (v / 2 ^ 8 % 256)) d3 (decimal_lacks stop (v / 2 ^ 8 % 256) (omega arith) (omega arith)) (dot, decimal_lacks stop (v % 256) (omega arith) (omega arith))),
     )
+
+-- it has no comma and no end of a row
+pub plain4 : (v : ℕ) → v < 2 ^ 32 → Lacks 44 (text4 v) × Lacks 10 (text4 v)
+plain4 v h = (lacks4 44 v (omega arith) h, lacks4 10 v (omega arith) h)
 
 -- a number and a dot tell what follows
 pub after_dot : (m n : ℕ) (r y : List ℕ) → m ≤ 255 → n ≤ 255 → decimal m ++ (46 ∷ r) ≡ decimal n ++ (46 ∷ y) → (m ≡ n) × (r ≡ y)

@@ -56,6 +56,10 @@ joined k high low bytes h =
 pub long6 : (h l : ℕ) → length (text6 h l) ≡ 39
 long6 h l = refl
 
+-- so it is short
+pub short6 : (h l : ℕ) → length (text6 h l) ≤ 39
+short6 h l = omega (arith, long6 h l)
+
 high_lacks : (stop d : ℕ) → stop < 48 → digit d ≢ stop
 high_lacks stop d low e = let h = digit_high d in omega arith
 
@@ -75,8 +79,12 @@ pub plain4 : (stop n : ℕ) → stop < 48 → Lacks stop (groups4 n)
 plain4 stop n low = plain_halves stop (groups2 (n / 2 ^ 32)) (groups2 (n % 2 ^ 32)) low (plain2 stop (n / 2 ^ 32) low) (plain2 stop (n % 2 ^ 32) low)
 
 -- an IPv6 text has no byte below '0'
-pub plain6 : (stop h l : ℕ) → stop < 48 → Lacks stop (text6 h l)
-plain6 stop h l low = plain_halves stop (groups4 h) (groups4 l) low (plain4 stop h low) (plain4 stop l low)
+pub lacks6 : (stop h l : ℕ) → stop < 48 → Lacks stop (text6 h l)
+lacks6 stop h l low = plain_halves stop (groups4 h) (groups4 l) low (plain4 stop h low) (plain4 stop l low)
+
+-- it has no comma and no end of a row
+pub plain6 : (h l : ℕ) → Lacks 44 (text6 h l) × Lacks 10 (text6 h l)
+plain6 h l = (lacks6 44 h l (omega arith), lacks6 10 h l (omega arith))
 
 -- two texts of equal halves are equal by halves
 both : (k : ℕ) (a b x y : List ℕ) → length a ≡ k → length b ≡ k → length x ≡ k → length y ≡ k → a ++ (58 ∷ b) ≡ x ++ (58 ∷ y) → (a ≡ x) × (b ≡ y)
@@ -106,6 +114,23 @@ pub same6 : (h l h' l' : ℕ) → h < 2 ^ 64 → l < 2 ^ 64 → h' < 2 ^ 64 → 
 same6 h l h' l' a b c d e =
     let p = both 19 (groups4 h) (groups4 l) (groups4 h') (groups4 l') refl refl refl refl e in
     (same4 h h' a c p.0, same4 l l' b d p.1)
+
+-- an IPv6 text tells the place of its address
+pub tells6 : (h l h' l' : ℕ) → h < 2 ^ 64 → l < 2 ^ 64 → h' < 2 ^ 64 → l' < 2 ^ 64 → text6 h l ≡ text6 h' l' → h * 2 ^ 64 + l ≡ h' * 2 ^ 64 + l'
+tells6 h l h' l' a b c d e =
+    let s = same6 h l h' l' a b c d e in
+    ap (λ (x : ℕ). x * 2 ^ 64 + l) s.0 ∙ ap (λ (x : ℕ). h' * 2 ^ 64 + x) s.1
+
+-- the place of an IPv6 address has one text
+pub told6 : (h l h' l' : ℕ) → l < 2 ^ 64 → l' < 2 ^ 64 → h * 2 ^ 64 + l ≡ h' * 2 ^ 64 + l' → text6 h l ≡ text6 h' l'
+told6 h l h' l' b d e =
+    let high : h ≡ h' = omega arith in
+    let low : l ≡ l' = omega arith in
+    ap (λ (x : ℕ). text6 x l) high ∙ ap (λ (x : ℕ). text6 h' x) low
+
+-- an IPv6 address stands below 2 ^ 128
+pub inside6 : (h l : ℕ) → h < 2 ^ 64 → l < 2 ^ 64 → h * 2 ^ 64 + l < 2 ^ 128
+inside6 h l a b = omega arith
 
 four : (bytes : List ℕ) → length bytes ≡ 4 → slice_index bytes 0 ∷ (slice_index bytes 1 ∷ (slice_index bytes 2 ∷ (slice_index bytes 3 ∷ []))) ≡ bytes
 four [] h = absurd (omega arith)

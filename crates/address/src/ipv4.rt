@@ -1,11 +1,10 @@
 // IPv4 addresses.
-ghost use Rattle.std.specs.Prelude.{◌≡◌, ℕ, ◌+◌, ◌*◌, ◌%◌, ◌^◌, ◌<◌, ◌≤◌, length, nat_lt};
-ghost use Rattle.std.proofs.Common.{ap, rules, arith};
+ghost use Rattle.std.specs.Prelude.{◌≡◌, ◌+◌, ◌<◌, ◌^◌};
+ghost use Rattle.std.proofs.Common.{ap};
 ghost use Rattle.address.specs.Layouts.{layout4};
 ghost use Rattle.address.specs.Texts.{text4};
 ghost use Rattle.address.specs.Dots.{short4, plain4, same4};
-ghost use Rattle.std.proofs.lemmas.Bool.Decides as Ways;
-ghost use Rattle.address.specs.Heads.{number_append};
+ghost use Rattle.address.specs.Heads.{steady4};
 
 use crate::bytes::{read_u16, read_u32};
 use crate::dotted::{read_dotted, write_dotted};
@@ -40,8 +39,6 @@ impl Point for Ipv4 {
     ghost size = { 2 ^ 32 };
 
     ghost place = { λ a. a.value };
-
-    ghost inside = { first_of (Prim.search rules, Prim.grind (arith, Self.row.coded.inj)) };
 
     fn same(&self, other: &Self) -> bool {
         self.value == other.value
@@ -78,6 +75,8 @@ impl Point for Ipv4 {
             })
         }
     }
+
+    ghost inside = { λ a. a.fits };
 }
 
 impl Address for Ipv4 {
@@ -109,24 +108,6 @@ impl Address for Ipv4 {
 
     ghost layout = { layout4 };
 
-    ghost short = { λ a. short4 a.value a.fits };
-
-    ghost plain = { λ a. (plain4 44 a.value (omega arith) a.fits, plain4 10 a.value (omega arith) a.fits) };
-
-    ghost tells = { λ a b e. same4 a.value b.value a.fits b.fits e };
-
-    ghost told = { first_of (Prim.search rules, Prim.grind (arith, Self.row.coded.inj)) };
-
-    ghost steady = { λ bytes more w.
-        let long : 20 ≤ length bytes = let b = w.begins in let e = w.within in Prim.grind (arith, Ways.nat_tests) in
-        record {
-          end = ap (λ (n : ℕ). n % 16 * 4) (number_append bytes more 0 1 (omega arith));
-          later = ap (λ (n : ℕ). nat_lt 0 (n % 2 ^ 13)) (number_append bytes more 6 2 (omega arith));
-          protocol = number_append bytes more 9 1 (omega arith);
-          source = number_append bytes more 12 4 (omega arith);
-          destination = number_append bytes more 16 4 (omega arith);
-        } };
-
     fn begins(first: u8) -> bool {
         first / 16 == 4 && first % 16 >= 5
     }
@@ -150,4 +131,14 @@ impl Address for Ipv4 {
             later: read_u16(bytes, 6) % 8192 > 0,
         })
     }
+
+    ghost short = { λ a. short4 a.value a.fits };
+
+    ghost plain = { λ a. plain4 a.value a.fits };
+
+    ghost tells = { λ a b. same4 a.value b.value a.fits b.fits };
+
+    ghost told = { λ a b. ap text4 };
+
+    ghost steady = { steady4 };
 }

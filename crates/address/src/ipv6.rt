@@ -1,10 +1,9 @@
 // IPv6 addresses.
-ghost use Rattle.std.specs.Prelude.{◌≡◌, ℕ, ◌+◌, ◌*◌, ◌^◌, ◌<◌, ◌≤◌, length, refl};
-ghost use Rattle.std.proofs.Common.{ap, ◌∙◌, rules, arith};
+ghost use Rattle.std.specs.Prelude.{◌≡◌, ◌+◌, ◌*◌, ◌<◌, ◌^◌};
 ghost use Rattle.address.specs.Layouts.{layout6};
 ghost use Rattle.address.specs.Texts.{text6};
-ghost use Rattle.address.specs.Groups.{long6, plain6, same6};
-ghost use Rattle.address.specs.Heads.{number_append};
+ghost use Rattle.address.specs.Groups.{inside6, short6, plain6, tells6, told6};
+ghost use Rattle.address.specs.Heads.{steady6};
 
 use crate::bytes::read_u64;
 use crate::hex::{read_four, write_four};
@@ -49,8 +48,6 @@ impl Point for Ipv6 {
     ghost size = { 2 ^ 128 };
 
     ghost place = { λ a. a.high * 2 ^ 64 + a.low };
-
-    ghost inside = { first_of (Prim.search rules, Prim.grind (arith, Self.row.coded.inj)) };
 
     fn same(&self, other: &Self) -> bool {
         self.high == other.high && self.low == other.low
@@ -102,6 +99,8 @@ impl Point for Ipv6 {
         }
         None
     }
+
+    ghost inside = { λ a. inside6 a.high a.low a.high_fits a.low_fits };
 }
 
 impl Address for Ipv6 {
@@ -128,30 +127,6 @@ impl Address for Ipv6 {
 
     ghost layout = { layout6 };
 
-    ghost short = { λ a. omega (arith, long6 a.high a.low) };
-
-    ghost plain = { λ a. (plain6 44 a.high a.low (omega arith), plain6 10 a.high a.low (omega arith)) };
-
-    ghost tells = { λ a b e.
-        let s = same6 a.high a.low b.high b.low a.high_fits a.low_fits b.high_fits b.low_fits e in
-        ap (λ (h : ℕ). h * 2 ^ 64 + a.low) s.0 ∙ ap (λ (l : ℕ). b.high * 2 ^ 64 + l) s.1 };
-
-    ghost told = { λ a b e.
-        let e' : a.high * 2 ^ 64 + a.low ≡ b.high * 2 ^ 64 + b.low = e in
-        let h : a.high ≡ b.high = omega (arith, a.low_fits, b.low_fits) in
-        let l : a.low ≡ b.low = omega (arith, a.low_fits, b.low_fits) in
-        ap (λ (x : ℕ). text6 x a.low) h ∙ ap (λ (x : ℕ). text6 b.high x) l };
-
-    ghost steady = { λ bytes more w.
-        let long : 40 ≤ length bytes = w.within in
-        record {
-          end = refl;
-          later = refl;
-          protocol = number_append bytes more 6 1 (omega arith);
-          source = number_append bytes more 8 16 (omega arith);
-          destination = number_append bytes more 24 16 (omega arith);
-        } };
-
     fn begins(first: u8) -> bool {
         first / 16 == 6
     }
@@ -174,4 +149,14 @@ impl Address for Ipv6 {
             later: false,
         })
     }
+
+    ghost short = { λ a. short6 a.high a.low };
+
+    ghost plain = { λ a. plain6 a.high a.low };
+
+    ghost tells = { λ a b. tells6 a.high a.low b.high b.low a.high_fits a.low_fits b.high_fits b.low_fits };
+
+    ghost told = { λ a b. told6 a.high a.low b.high b.low a.low_fits b.low_fits };
+
+    ghost steady = { steady6 };
 }

@@ -1,4 +1,6 @@
 // The two kinds of addresses: points of a line that have a text, and the heads of the packets between them.
+#![tactic(auto)]
+
 mod address;
 mod bytes;
 mod dotted;

@@ -23,7 +23,7 @@ fn an_ipv4_text_is_read_and_written_back(rt: HostRuntime) -> Result<(), Fail> {
     let mut out = [0; 39];
     let end = address.write_text(&mut out, 0);
     assert!(rt; end == 11);
-    assert!(rt; &out[0..11] == text);
+    assert!(rt; &out[0..11] == text.as_slice());
     Ok(())
 }
 

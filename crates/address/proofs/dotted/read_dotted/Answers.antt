@@ -7,8 +7,8 @@ use Rattle.address.proofs.dotted.read_dotted.Goals as goal
 pub returns-in-None : goal.returns-in-None
 returns-in-None c n rest h e = no_cut 46 c.args.bytes.now (decimal n) rest c.in-None.ensures e
 
-pub returns-in-None-read-number : goal.returns-in-None-read-number
-returns-in-None-read-number c n rest h e =
+pub returns-in-None-read_number : goal.returns-in-None-read_number
+returns-in-None-read_number c n rest h e =
     let k = c.in-Some.ensures in
     let s = same_cut 46 (decimal n) c.in-Some.parted.front.now rest c.in-Some.parted.rest.now (decimal_lacks 46 n (omega arith) (omega arith)) k.first (e ∙ k.whole) in
-    c.in-None-read-number.ensures n h s.0
+    c.in-None-read_number.ensures n h s.0

@@ -7,19 +7,19 @@ use Rattle.address.specs.Texts.{text4}
 use Rattle.address.specs.Dots.{long4}
 use Rattle.address.proofs.ipv4.Ipv4Address.write_text.Goals as goal
 
-pub write-dotted-b-requires : goal.write-dotted-b-requires
-write-dotted-b-requires c = omega (arith, long4 c.args.self.now.value)
+pub write_dotted-b-requires : goal.write_dotted-b-requires
+write_dotted-b-requires c = omega (arith, long4 c.args.self.now.value)
 
-pub write-dotted-c-requires : goal.write-dotted-c-requires
-write-dotted-c-requires c = omega (arith, long4 c.args.self.now.value, c.write-dotted-b.ensures.end, c.write-dotted-b.auto.out)
+pub write_dotted-c-requires : goal.write_dotted-c-requires
+write_dotted-c-requires c = omega (arith, long4 c.args.self.now.value, c.write_dotted-b.ensures.end, c.write_dotted-b.auto.out)
 
-pub write-dotted-d-requires : goal.write-dotted-d-requires
-write-dotted-d-requires c =
-    omega (arith, long4 c.args.self.now.value, c.write-dotted-b.ensures.end, c.write-dotted-b.auto.out, c.write-dotted-c.ensures.end, c.write-dotted-c.auto.out)
+pub write_dotted-d-requires : goal.write_dotted-d-requires
+write_dotted-d-requires c =
+    omega (arith, long4 c.args.self.now.value, c.write_dotted-b.ensures.end, c.write_dotted-b.auto.out, c.write_dotted-c.ensures.end, c.write_dotted-c.auto.out)
 
-pub write-number-requires : goal.write-number-requires
-write-number-requires c =
-    omega (arith, long4 c.args.self.now.value, c.write-dotted-b.ensures.end, c.write-dotted-b.auto.out, c.write-dotted-c.ensures.end, c.write-dotted-c.auto.out, c.write-dotted-d.ensures.end, c.write-dotted-d.auto.out)
+pub write_number-requires : goal.write_number-requires
+write_number-requires c =
+    omega (arith, long4 c.args.self.now.value, c.write_dotted-b.ensures.end, c.write_dotted-b.auto.out, c.write_dotted-c.ensures.end, c.write_dotted-c.auto.out, c.write_dotted-d.ensures.end, c.write_dotted-d.auto.out)
 
 pub returns : goal.returns
 returns c =
@@ -37,12 +37,12 @@ returns c =
     let lc : length pc ≡ length (decimal (v / 256 % 256)) + 1 = length-append (decimal (v / 256 % 256)) (46 ∷ []) in
     let lab = length-append pa pb in
     let labc = length-append (pa ++ pb) pc in
-    let e1 = c.write-dotted-b.ensures.end in
-    let e2 = c.write-dotted-c.ensures.end in
-    let e3 = c.write-dotted-d.ensures.end in
-    let e4 = c.write-number.ensures.end in
-    let s2 = put_then out c.write-dotted-b.new.out c.write-dotted-c.new.out at c.write-dotted-b.result pa pb c.write-dotted-b.ensures.wrote (omega arith) c.write-dotted-c.ensures.wrote (omega arith) in
-    let s3 = put_then out c.write-dotted-c.new.out c.write-dotted-d.new.out at c.write-dotted-c.result (pa ++ pb) pc s2 (omega arith) c.write-dotted-d.ensures.wrote (omega arith) in
-    let s4 = put_then out c.write-dotted-d.new.out c.write-number.new.out at c.write-dotted-d.result ((pa ++ pb) ++ pc) pd s3 (omega arith) c.write-number.ensures.wrote (omega arith) in
+    let e1 = c.write_dotted-b.ensures.end in
+    let e2 = c.write_dotted-c.ensures.end in
+    let e3 = c.write_dotted-d.ensures.end in
+    let e4 = c.write_number.ensures.end in
+    let s2 = put_then out c.write_dotted-b.new.out c.write_dotted-c.new.out at c.write_dotted-b.result pa pb c.write_dotted-b.ensures.wrote (omega arith) c.write_dotted-c.ensures.wrote (omega arith) in
+    let s3 = put_then out c.write_dotted-c.new.out c.write_dotted-d.new.out at c.write_dotted-c.result (pa ++ pb) pc s2 (omega arith) c.write_dotted-d.ensures.wrote (omega arith) in
+    let s4 = put_then out c.write_dotted-d.new.out c.write_number.new.out at c.write_dotted-d.result ((pa ++ pb) ++ pc) pd s3 (omega arith) c.write_number.ensures.wrote (omega arith) in
     let flat : ((pa ++ pb) ++ pc) ++ pd ≡ text4 v = simp append_assoc in
     record { end = omega arith; wrote = s4 ∙ ap (put out at) flat }
