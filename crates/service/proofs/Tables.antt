@@ -1,6 +1,6 @@
 -- A table of tests, held to its rule at all of its places by one test that antt computes.
 use Rattle.std.proofs.Common.{◌≡◌, ℕ, zero, suc, ◌+◌, ◌<◌, Bool, true, false, ◌&&◌, T, List, [], ◌∷◌, length, get_or, sym, refl, ◌∙◌, subst, le_of_suc-le-suc, not-suc-le-zero, add-zero, add-suc, suc-add, zero-add}
-use mathlib.Core.Bool.{beq}
+use Rattle.std.proofs.Math.Bool.{beq}
 
 both_left : (a b : Bool) → T (a && b) → T a
 both_left true b t = tt

@@ -1,4 +1,6 @@
 // Services: a protocol and a port, as points on one scale, which protocols carry ports, and spans of services.
+#![tactic(auto)]
+
 mod protocols;
 mod service;
 mod span;

@@ -1,6 +1,6 @@
 // The service point: protocol by protocol, and port by port within a protocol.
 ghost use Rattle.std.specs.Prelude.{◌≡◌, ℕ, ◌+◌, ◌*◌, ◌^◌, ◌<◌};
-ghost use Rattle.std.proofs.Common.{rules, arith};
+ghost use Rattle.service.specs.ServiceLemmas.{on_the_scale};
 
 use line::Point;
 
@@ -38,7 +38,7 @@ impl Point for Service {
 
     ghost place = { λ s. s.protocol * 65536 + s.port };
 
-    ghost inside = { first_of (Prim.search rules, Prim.grind (arith, Self.row.coded.inj)) };
+    ghost inside = { λ s. on_the_scale s.protocol s.port s.protocol_fits s.port_fits };
 
     fn same(&self, other: &Self) -> bool {
         self.protocol == other.protocol && self.port == other.port
