@@ -1,5 +1,5 @@
 -- The checks before those of the addresses.
-use Rattle.std.proofs.Common.{◌≡◌, ℕ, ◌<◌, ◌≤◌, Bool, true, false, ltb, List, Some, None, Option, sym, refl, ◌∙◌, subst, arith, ltb-false, ltb-true}
+use Rattle.std.proofs.Common.{◌≡◌, ℕ, ◌≤◌, Bool, true, false, ltb, List, Some, None, sym, refl, subst, arith, ltb-false, ltb-true}
 use Rattle.refusal.specs.declared.refusal.Refusal.{Refusal}
 use Rattle.refusal.specs.declared.refusal.Refusal.TheVariants.{RangeReversed, FieldMalformed, TooManyNames}
 use Rattle.names.specs.Names.{number_in, well_formed}

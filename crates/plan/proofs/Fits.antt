@@ -1,9 +1,9 @@
 -- Where a line is free.
-use Rattle.std.proofs.Common.{◌≡◌, ℕ, zero, suc, ◌+◌, ◌-◌, ◌<◌, ◌≤◌, ◌⊎◌, List, [], ◌∷◌, ◌++◌, length, get_or, take, drop, sym, refl, ap, ◌∙◌, subst, inl, inr, add-one, arith}
+use Rattle.std.proofs.Common.{◌≡◌, ℕ, zero, suc, ◌+◌, ◌<◌, ◌≤◌, List, [], ◌∷◌, ◌++◌, length, get_or, take, drop, sym, ap, ◌∙◌, subst, inl, inr, arith}
 use Rattle.std.proofs.lemmas.List.{get_or_default, length-take-le, length-drop, length-append}
 use Rattle.splice.specs.declared.change.Change.{Change}
 use Rattle.line.specs.declared.run.Run.{Run}
-use Rattle.line.specs.Line.{Keeps, Joined, Painted, Line}
+use Rattle.line.specs.Line.{Keeps, Joined, Line}
 use Rattle.line.proofs.Lines.{joined_le, order}
 use Rattle.line.proofs.Rows.{row_keeps}
 use Rattle.line.specs.Search.{Spans}

@@ -11,7 +11,7 @@ use Rattle.line.specs.Line.{Line, over, runs_needed}
 use Rattle.line.proofs.Counts.{needed_line}
 use Rattle.line.proofs.Rows.{whole_line}
 use Rattle.splice.specs.Changes.{changed, count_after}
-use Rattle.names.specs.Names.{number_in, with_name, well_formed, letters}
+use Rattle.names.specs.Names.{number_in, well_formed, letters}
 use Rattle.names.specs.Texts.{texts}
 use Rattle.plan.specs.declared.plan.Plan.{Plan}
 use Rattle.plan.specs.declared.plan.Edit.{Edit}

@@ -1,9 +1,9 @@
 -- Parts of a line, and a line put together of two.
-use Rattle.std.proofs.Common.{◌≡◌, ℕ, zero, suc, ◌+◌, ◌-◌, ◌<◌, ◌≤◌, ◌⊎◌, List, [], ◌∷◌, ◌++◌, length, get_or, take, drop, sym, refl, ap, ◌∙◌, subst, inl, inr, zero-le, add-one, arith}
+use Rattle.std.proofs.Common.{◌≡◌, ℕ, zero, suc, ◌+◌, ◌-◌, ◌<◌, ◌≤◌, List, [], ◌∷◌, ◌++◌, length, get_or, take, drop, sym, refl, ap, ◌∙◌, subst, add-one, arith}
 use Rattle.std.proofs.lemmas.Bool.Decides.{nat_tests}
 use Rattle.line.specs.declared.run.Run.{Run}
-use Rattle.line.specs.Line.{Keeps, Joined, Painted, BeginsApart, Differ, Line, over}
-use Rattle.line.proofs.Lines.{joined_le, painted_like, order}
+use Rattle.line.specs.Line.{Keeps, BeginsApart, over}
+use Rattle.line.proofs.Lines.{joined_le, painted_like}
 use Rattle.splice.specs.Changes.{Part}
 
 module _ {L : Type 0} (f : ℕ → L) (low high : ℕ) (l : L) where

@@ -1,6 +1,6 @@
 -- Values put in the place of others in a list.
-use Rattle.std.proofs.Common.{◌≡◌, ℕ, ◌+◌, ◌-◌, ◌<◌, ◌≤◌, List, [], ◌∷◌, ◌++◌, length, get_or, take, drop, sym, refl, ap, ◌∙◌, arith, rules}
-use Rattle.std.proofs.lemmas.List.{same_lists, places, append_assoc, length-append, length-take-le, take-append-drop, take-take}
+use Rattle.std.proofs.Common.{◌≡◌, ℕ, ◌+◌, ◌-◌, ◌<◌, ◌≤◌, List, ◌++◌, length, get_or, take, drop, ap, ◌∙◌, arith, rules}
+use Rattle.std.proofs.lemmas.List.{same_lists, places, append_assoc}
 
 module _ {X : Type 0} (old moved : List X) (count from to tail end : ℕ) (same : length moved ≡ length old)
     (a : from ≤ to) (b : to ≤ count) (c : count ≤ length old) (d : from ≤ tail) (e : end ≡ tail + (count - to)) (f : end ≤ length old)

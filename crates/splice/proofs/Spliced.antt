@@ -1,14 +1,14 @@
 -- What `side_before` and `side_after` give, case by case, and the line that they make.
-use Rattle.std.proofs.Common.{◌≡◌, ℕ, zero, suc, ◌+◌, ◌-◌, ◌<◌, ◌≤◌, ◌⊎◌, List, [], ◌∷◌, ◌++◌, length, get_or, take, drop, Some, None, sym, refl, ap, ◌∙◌, subst, inl, inr, zero-le, add-one, arith}
+use Rattle.std.proofs.Common.{◌≡◌, ℕ, ◌+◌, ◌-◌, ◌<◌, ◌≤◌, List, [], ◌∷◌, ◌++◌, length, get_or, take, drop, Some, None, sym, ap, ◌∙◌, subst, inl, inr, arith}
 use Rattle.std.proofs.lemmas.List.{append-nil, get_or_default}
 use Rattle.line.specs.declared.run.Run.{Run}
-use Rattle.line.specs.Line.{Keeps, Joined, Painted, BeginsApart, Differ, Line, over}
+use Rattle.line.specs.Line.{Keeps, Line, over}
 use Rattle.line.proofs.Lines.{order}
 use Rattle.line.proofs.Rows.{row_keeps, row_next}
 use Rattle.splice.specs.declared.change.Side.{Side}
 use Rattle.splice.specs.Changes.{Part, Spot, Led, Follows, listed}
-use Rattle.splice.proofs.Parts.{over_out, over_in, part_like, part_append, part_one, part_take, part_after, part_turns}
-use Rattle.splice.proofs.Turns.{turn_before, turn_after, turn_next}
+use Rattle.splice.proofs.Parts.{over_out, over_in, part_like, part_append, part_one, part_take, part_after}
+use Rattle.splice.proofs.Turns.{turn_before, turn_after}
 
 module _ {P L : Type 0} (place : P → ℕ) (size : ℕ) (f : ℕ → L) (rows : List (Run P L)) (at : ℕ) (r : Run P L) (is : get_or rows at r ≡ r) where
   -- the run at `at` as it was read

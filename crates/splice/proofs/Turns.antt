@@ -1,12 +1,11 @@
 -- The two sides of a new run in a line.
-use Rattle.std.proofs.Common.{◌≡◌, ℕ, zero, suc, ◌+◌, ◌-◌, ◌<◌, ◌≤◌, ◌⊎◌, List, [], ◌∷◌, ◌++◌, length, get_or, take, drop, Some, None, sym, refl, ap, ◌∙◌, subst, inl, inr, zero-le, add-one, arith}
-use Rattle.std.proofs.lemmas.List.{append-nil, get_or_default}
+use Rattle.std.proofs.Common.{◌≡◌, ℕ, zero, suc, ◌+◌, ◌-◌, ◌<◌, List, [], ◌∷◌, length, get_or, sym, ap, ◌∙◌, inl, inr, arith}
 use Rattle.line.specs.declared.run.Run.{Run}
-use Rattle.line.specs.Line.{Keeps, Joined, Painted, BeginsApart, Differ, Line, over}
+use Rattle.line.specs.Line.{Joined, Line}
 use Rattle.line.proofs.Lines.{joined_le, order}
 use Rattle.line.proofs.Rows.{row_keeps, row_first, row_next, row_last}
-use Rattle.splice.specs.Changes.{Part, Spot, Led, Follows, listed}
-use Rattle.splice.proofs.Parts.{over_out, over_in, part_like, part_append, part_one, part_take, part_after, part_turns}
+use Rattle.splice.specs.Changes.{Part}
+use Rattle.splice.proofs.Parts.{part_turns}
 
 module _ {P L : Type 0} (place : P → ℕ) (size : ℕ) (f : ℕ → L) (rows : List (Run P L)) (line : Line place size f rows) where
   whole : Part place f size 0 rows

@@ -1,7 +1,7 @@
 -- A line before and after a new run. `place` says where a point stands.
 use Rattle.std.specs.Prelude.{◌≡◌, ℕ, ◌+◌, ◌-◌, ◌<◌, ◌≤◌, List, [], ◌∷◌, ◌++◌, length, take, drop, Some, None, Option, ◌≢◌, slice_index_or}
 use Rattle.line.specs.declared.run.Run.{Run}
-use Rattle.line.specs.Line.{Keeps, Joined, Painted, Differ, Line, over}
+use Rattle.line.specs.Line.{Joined, Painted, Differ, Line, over}
 use Rattle.splice.specs.declared.change.Side.{Side}
 use Rattle.splice.specs.declared.change.Change.{Change}
 

@@ -1,10 +1,9 @@
-use Rattle.std.proofs.Common.{◌≡◌, ℕ, ◌+◌, ◌-◌, ◌<◌, ◌≤◌, Bool, true, false, eqb, length, get_or, take, sym, ap, ◌∙◌, zero-le, arith, ltb-false, ltb-true}
+use Rattle.std.proofs.Common.{ℕ, ◌<◌, ◌≤◌, eqb, sym, ap, ◌∙◌, zero-le, arith, ltb-false, ltb-true}
 use Rattle.std.proofs.lemmas.Bool.{leb-true, leb-false}
-use Rattle.std.proofs.lemmas.Bool.Decides.{Decides-eqb, when_true, when_false}
+use Rattle.std.proofs.lemmas.Bool.Decides.{Decides-eqb}
 use Rattle.line.specs.declared.run.Run.{Run}
-use Rattle.line.specs.Line.{Line, over}
+use Rattle.line.specs.Line.{over}
 use Rattle.line.proofs.Counts.{needed_line}
-use Rattle.splice.specs.Changes.{Spot, news}
 use Rattle.plan.proofs.Fits.{meets_low, meets_next, all_free, make_spot, read, length_changed}
 use Rattle.plan.specs.Fit.{Unfit}
 use Rattle.plan.proofs.fit.fit.Goals as goal

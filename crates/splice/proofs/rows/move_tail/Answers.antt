@@ -1,6 +1,5 @@
-use Rattle.std.proofs.Common.{arith, rules}
-use Rattle.std.proofs.lemmas.List.{same_lists, places}
-use Rattle.std.proofs.lemmas.Bool.{cases_order}
+use Rattle.std.proofs.Common.{arith}
+use Rattle.std.proofs.lemmas.List.{places}
 use Rattle.splice.proofs.rows.move_tail.Goals as goal
 
 pub returns-then-tail-to : goal.returns-then-tail-to

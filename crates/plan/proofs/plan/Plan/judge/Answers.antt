@@ -1,4 +1,4 @@
-use Rattle.std.proofs.Common.{◌≡◌, ℕ, ◌<◌, ◌≤◌, List, length, take, sym, refl, ap, ◌∙◌, subst, zero-le, arith, eqb-true}
+use Rattle.std.proofs.Common.{◌≡◌, ℕ, ◌≤◌, List, length, sym, refl, ap, ◌∙◌, subst, zero-le, arith, eqb-true}
 use borrow.Author.Tests.{eqb-false}
 use Rattle.std.proofs.lemmas.List.{length-take-le}
 use Rattle.line.specs.declared.run.Run.{Run}
@@ -6,7 +6,7 @@ use Rattle.line.specs.Line.{Line, over}
 use Rattle.splice.specs.Changes.{changed, count_after, Apt}
 use Rattle.names.specs.Names.{number_in}
 use Rattle.names.specs.Texts.{texts}
-use Rattle.plan.specs.Declarations.{Declaration, names_of, network_of}
+use Rattle.plan.specs.Declarations.{Declaration, network_of}
 use Rattle.plan.proofs.Snoc.{number_positive}
 use Rattle.plan.proofs.Makes.{well_short, refuses, some_fits, no_runs, open_runs, not_zero}
 use Rattle.plan.proofs.Checks.{cause_refuses, none_sane, none_passes}

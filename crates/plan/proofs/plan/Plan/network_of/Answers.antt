@@ -1,5 +1,4 @@
-use Rattle.std.proofs.Common.{◌≡◌, ℕ, ◌<◌, List, length, take, Ok, sym, refl, ap, ◌∙◌, subst, zero-le, arith}
-use Rattle.std.proofs.lemmas.List.{length-take-le}
+use Rattle.std.proofs.Common.{ℕ, List, Ok, sym, refl, ap, subst, arith}
 use Rattle.line.specs.declared.run.Run.{Run}
 use Rattle.line.specs.Line.{Line}
 use Rattle.plan.specs.Declarations.{network_of}

@@ -1,4 +1,4 @@
-use Rattle.std.proofs.Common.{◌≡◌, length, sym, refl, ap, ◌∙◌, arith, length-set}
+use Rattle.std.proofs.Common.{length, sym, refl, ◌∙◌, length-set}
 use Rattle.std.proofs.lemmas.Bool.{false≢true, and_parts, leb-true}
 use Rattle.plan.proofs.Makes.{made_first}
 use Rattle.plan.proofs.plan.Plan.open.Goals as goal
