@@ -3,11 +3,11 @@ use Rattle.planwrite.specs.Writes.{runs_of}
 use Rattle.matrix.proofs.Ending.{ended}
 use Rattle.matrix.proofs.answer.plan_answer.Goals as goal
 
-pub returns-in-Ok-write-plan : goal.returns-in-Ok-write-plan
-returns-in-Ok-write-plan g c =
+pub returns-in-Ok-write_plan : goal.returns-in-Ok-write_plan
+returns-in-Ok-write_plan g c =
     let opened = c.open-plan.ensures in
     let loaded = c.in-Ok.ensures in
-    let q = c.load-plan.new.plan in
+    let q = c.load_plan.new.plan in
     let e = ended g.A.Address.text g.A.Point.place g.A.Point.size (length c.args.rows.now) c.args.text.now _ c.open-plan.result q
     opened.made (λ h. (opened.shut h).0) opened.long (λ z. (loaded.shut z).0) (λ a b. (loaded.over a b).0) loaded.loads loaded.long in
     let plan = e.plan refl in
@@ -15,14 +15,14 @@ returns-in-Ok-write-plan g c =
       made = e.made;
       end = None;
       ends = e.ends;
-      printed = (runs_of q, plan.line, (c.in-Ok-write-plan.count, refl, c.in-Ok-write-plan.ensures.wrote e.made plan));
+      printed = (runs_of q, plan.line, (c.in-Ok-write_plan.count, refl, c.in-Ok-write_plan.ensures.wrote e.made plan));
     }
 
-pub returns-in-Err-write-plan : goal.returns-in-Err-write-plan
-returns-in-Err-write-plan g c =
+pub returns-in-Err-write_plan : goal.returns-in-Err-write_plan
+returns-in-Err-write_plan g c =
     let opened = c.open-plan.ensures in
     let loaded = c.in-Ok.ensures in
-    let q = c.load-plan.new.plan in
+    let q = c.load_plan.new.plan in
     let e = ended g.A.Address.text g.A.Point.place g.A.Point.size (length c.args.rows.now) c.args.text.now _ c.open-plan.result q
     opened.made (λ h. (opened.shut h).0) opened.long (λ z. (loaded.shut z).0) (λ a b. (loaded.over a b).0) loaded.loads loaded.long in
     let plan = e.plan refl in
@@ -30,31 +30,31 @@ returns-in-Err-write-plan g c =
       made = e.made;
       end = None;
       ends = e.ends;
-      printed = (runs_of q, plan.line, c.in-Err-write-plan.ensures.wrote e.made plan);
+      printed = (runs_of q, plan.line, c.in-Err-write_plan.ensures.wrote e.made plan);
     }
 
-pub returns-in-Ok-write-fault : goal.returns-in-Ok-write-fault
-returns-in-Ok-write-fault g c =
+pub returns-in-Ok-write_fault : goal.returns-in-Ok-write_fault
+returns-in-Ok-write_fault g c =
     let opened = c.open-plan.ensures in
     let loaded = c.in-Err.ensures in
-    let e = ended g.A.Address.text g.A.Point.place g.A.Point.size (length c.args.rows.now) c.args.text.now _ c.open-plan.result c.load-plan.new.plan
+    let e = ended g.A.Address.text g.A.Point.place g.A.Point.size (length c.args.rows.now) c.args.text.now _ c.open-plan.result c.load_plan.new.plan
     opened.made (λ h. (opened.shut h).0) opened.long (λ z. (loaded.shut z).0) (λ a b. (loaded.over a b).0) loaded.loads loaded.long in
     record {
       made = e.made;
       end = Some c.in-Err.fault;
       ends = e.ends;
-      printed = (c.in-Ok-write-fault.count, refl, c.in-Ok-write-fault.ensures);
+      printed = (c.in-Ok-write_fault.count, refl, c.in-Ok-write_fault.ensures);
     }
 
-pub returns-in-Err-write-fault : goal.returns-in-Err-write-fault
-returns-in-Err-write-fault g c =
+pub returns-in-Err-write_fault : goal.returns-in-Err-write_fault
+returns-in-Err-write_fault g c =
     let opened = c.open-plan.ensures in
     let loaded = c.in-Err.ensures in
-    let e = ended g.A.Address.text g.A.Point.place g.A.Point.size (length c.args.rows.now) c.args.text.now _ c.open-plan.result c.load-plan.new.plan
+    let e = ended g.A.Address.text g.A.Point.place g.A.Point.size (length c.args.rows.now) c.args.text.now _ c.open-plan.result c.load_plan.new.plan
     opened.made (λ h. (opened.shut h).0) opened.long (λ z. (loaded.shut z).0) (λ a b. (loaded.over a b).0) loaded.loads loaded.long in
     record {
       made = e.made;
       end = Some c.in-Err.fault;
       ends = e.ends;
-      printed = c.in-Err-write-fault.ensures;
+      printed = c.in-Err-write_fault.ensures;
     }

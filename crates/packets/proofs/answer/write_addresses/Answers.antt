@@ -12,12 +12,12 @@ returns g c =
     let sa = g.met.A.Address.short c.args.source.now in
     let sb = g.met.A.Address.short c.args.destination.now in
     let room = c.requires in
-    let e1 = c.write-text-end.ensures.end in
-    let e2 = c.put-byte-next.ensures.end in
-    let e3 = c.write-text.ensures.end in
+    let e1 = c.write_text-end.ensures.end in
+    let e2 = c.put_byte-next.ensures.end in
+    let e3 = c.write_text.ensures.end in
     record {
       end = omega (arith, length-append a (44 ∷ b));
       short = omega arith;
-      wrote = put_parted c.args.out.now c.write-text-end.new.out c.put-byte-next.new.out c.write-text.new.out c.args.at c.write-text-end.result c.put-byte-next.result 44 a b
-          c.write-text-end.ensures.wrote e1 c.put-byte-next.ensures.wrote e2 c.write-text.ensures.wrote (omega arith);
+      wrote = put_parted c.args.out.now c.write_text-end.new.out c.put_byte-next.new.out c.write_text.new.out c.args.at c.write_text-end.result c.put_byte-next.result 44 a b
+          c.write_text-end.ensures.wrote e1 c.put_byte-next.ensures.wrote e2 c.write_text.ensures.wrote (omega arith);
     }

@@ -14,19 +14,19 @@ returns g c =
     let p = c.args.packet.now in
     let a : List ℕ = parted (text c.source.result) (text c.destination.result) in
     let b : List ℕ = parted (decimal c.protocol.result) (decimal c.port.result) in
-    let sp = short_byte c.protocol.result c.protocol.type-inv in
-    let sq = short_port c.port.result c.port.type-inv in
+    let sp = short_byte c.protocol.result c.protocol.type_inv in
+    let sq = short_port c.port.result c.port.type_inv in
     let lb = length-append (decimal c.protocol.result) (44 ∷ decimal c.port.result) in
     let room = c.requires in
-    let e1 = c.write-addresses-end.ensures.end in
-    let e2 = c.put-byte-next.ensures.end in
-    let e3 = c.write-service.ensures.end in
-    let s1 = c.write-addresses-end.ensures.short in
-    let s2 = c.write-service.ensures.short in
+    let e1 = c.write_addresses-end.ensures.end in
+    let e2 = c.put_byte-next.ensures.end in
+    let e3 = c.write_service.ensures.end in
+    let s1 = c.write_addresses-end.ensures.short in
+    let s2 = c.write_service.ensures.short in
     let same : a ++ (44 ∷ b) ≡ packet_text text p = cc in
     record {
       end = let l = ap length same in let m = length-append a (44 ∷ b) in omega arith;
       short = omega arith;
-      wrote = put_parted out c.write-addresses-end.new.out c.put-byte-next.new.out c.write-service.new.out 0 c.write-addresses-end.result c.put-byte-next.result 44 a b
-          c.write-addresses-end.ensures.wrote e1 c.put-byte-next.ensures.wrote e2 c.write-service.ensures.wrote (omega arith) ∙ ap (put out 0) same;
+      wrote = put_parted out c.write_addresses-end.new.out c.put_byte-next.new.out c.write_service.new.out 0 c.write_addresses-end.result c.put_byte-next.result 44 a b
+          c.write_addresses-end.ensures.wrote e1 c.put_byte-next.ensures.wrote e2 c.write_service.ensures.wrote (omega arith) ∙ ap (put out 0) same;
     }

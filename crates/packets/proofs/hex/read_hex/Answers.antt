@@ -12,26 +12,26 @@ returns-then-digits-count c bytes all short e = omega (arith, length_hexed bytes
 pub returns-then-count-out : goal.returns-then-count-out
 returns-then-count-out c bytes all short e = omega (arith, length_hexed bytes, ap length e)
 
-pub returns-in-default : goal.returns-in-default
-returns-in-default c bytes all short e =
+pub returns-in_default : goal.returns-in_default
+returns-in_default c bytes all short e =
     let i = c.loop-i.i in
     let inside : i < length bytes = omega (arith, length_hexed bytes, ap length e) in
     let byte = All-get_or (λ (b : ℕ). b < 256) bytes i 0 inside all in
-    c.in-default.ensures (get_or bytes i 0 / 16) (omega arith) (sym (high_at bytes i inside) ∙ ap (λ (q : List ℕ). get_or q (2 * i) 0) e)
+    c.in_default.ensures (get_or bytes i 0 / 16) (omega arith) (sym (high_at bytes i inside) ∙ ap (λ (q : List ℕ). get_or q (2 * i) 0) e)
 
-pub returns-in-default-read-digit : goal.returns-in-default-read-digit
-returns-in-default-read-digit c bytes all short e =
+pub returns-in_default-read_digit : goal.returns-in_default-read_digit
+returns-in_default-read_digit c bytes all short e =
     let i = c.loop-i.i in
     let inside : i < length bytes = omega (arith, length_hexed bytes, ap length e) in
-    c.in-default-read-digit.ensures (get_or bytes i 0 % 16) (omega arith) (sym (low_at bytes i inside) ∙ ap (λ (q : List ℕ). get_or q (2 * i + 1) 0) e)
+    c.in_default-read_digit.ensures (get_or bytes i 0 % 16) (omega arith) (sym (low_at bytes i inside) ∙ ap (λ (q : List ℕ). get_or q (2 * i + 1) 0) e)
 
 pub loop-i-preserved : goal.loop-i-preserved
 loop-i-preserved c =
     let i = c.loop-i.i in
     let h = c.in-Some.ensures in
-    let l = c.in-Some-read-digit.ensures in
-    ap hexed (take_more_set c.loop-i.out i (c.in-Some.high * 16 + c.in-Some-read-digit.low) (omega arith))
-    ∙ byte_more (take i c.loop-i.out) c.args.digits.now i c.in-Some.high c.in-Some-read-digit.low (omega arith) c.loop-i.invariant h.0 l.0 h.1 l.1
+    let l = c.in-Some-read_digit.ensures in
+    ap hexed (take_more_set c.loop-i.out i (c.in-Some.high * 16 + c.in-Some-read_digit.low) (omega arith))
+    ∙ byte_more (take i c.loop-i.out) c.args.digits.now i c.in-Some.high c.in-Some-read_digit.low (omega arith) c.loop-i.invariant h.0 l.0 h.1 l.1
 
 pub returns : goal.returns
 returns c =

@@ -9,11 +9,11 @@ use Rattle.std.proofs.lemmas.Bool.Decides.{Decides-eqb}
 
 pub returns : goal.returns
 returns g c = record {
-  end = omega (arith, c.write-answer-end.ensures.short, c.write-answer-end.auto.out, c.requires);
+  end = omega (arith, c.write_answer-end.ensures.short, c.write_answer-end.auto.out, c.requires);
   answers = record {
-    answer = c.read-packet-answer.result;
-    reads = c.read-packet-answer.ensures.reads;
-    is = ap (take c.write-answer-end.result) c.write-answer-end.ensures.wrote ∙ take_at (answer_text g.A.Address.text c.read-packet-answer.result) _ c.write-answer-end.result (sym c.write-answer-end.ensures.end);
+    answer = c.read_packet-answer.result;
+    reads = c.read_packet-answer.ensures.reads;
+    is = ap (take c.write_answer-end.result) c.write_answer-end.ensures.wrote ∙ take_at (answer_text g.A.Address.text c.read_packet-answer.result) _ c.write_answer-end.result (sym c.write_answer-end.ensures.end);
   };
-  agrees = subst (λ (n : ℕ). Decides c.eq-agrees.result (take n c.write-answer-end.new.out ≡ c.args.told.now)) (sub-zero c.write-answer-end.result) (slice_eq-Decides Decides-eqb _ _ _ c.eq-agrees.ensures);
+  agrees = subst (λ (n : ℕ). Decides c.eq-agrees.result (take n c.write_answer-end.new.out ≡ c.args.told.now)) (sub-zero c.write_answer-end.result) (slice_eq-Decides Decides-eqb _ _ _ c.eq-agrees.ensures);
 }

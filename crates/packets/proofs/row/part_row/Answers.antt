@@ -11,22 +11,22 @@ plain : (kind : Kind) → Lacks 44 (mark kind ∷ [])
 plain Four = ((λ e. omega arith), tt)
 plain Six = ((λ e. omega arith), tt)
 
-pub returns-in-default : goal.returns-in-default
-returns-in-default c kind digits told l e = no_cut 44 c.args.row.now (mark kind ∷ []) (digits ++ (44 ∷ told)) c.in-default.ensures e
+pub returns-in_default : goal.returns-in_default
+returns-in_default c kind digits told l e = no_cut 44 c.args.row.now (mark kind ∷ []) (digits ++ (44 ∷ told)) c.in_default.ensures e
 
-pub returns-in-default-read-kind : goal.returns-in-default-read-kind
-returns-in-default-read-kind c kind digits told l e =
+pub returns-in_default-read_kind : goal.returns-in_default-read_kind
+returns-in_default-read_kind c kind digits told l e =
     let f = c.in-Some.ensures in
-    c.in-default-read-kind.ensures kind (same_cut 44 (mark kind ∷ []) c.in-Some.first.front.now (digits ++ (44 ∷ told)) c.in-Some.first.rest.now (plain kind) f.first (e ∙ f.whole)).0
+    c.in_default-read_kind.ensures kind (same_cut 44 (mark kind ∷ []) c.in-Some.first.front.now (digits ++ (44 ∷ told)) c.in-Some.first.rest.now (plain kind) f.first (e ∙ f.whole)).0
 
-pub returns-in-default-cut : goal.returns-in-default-cut
-returns-in-default-cut c kind digits told l e =
+pub returns-in_default-cut : goal.returns-in_default-cut
+returns-in_default-cut c kind digits told l e =
     let f = c.in-Some.ensures in
-    no_cut 44 c.in-Some.first.rest.now digits told c.in-default-cut.ensures
+    no_cut 44 c.in-Some.first.rest.now digits told c.in_default-cut.ensures
     (same_cut 44 (mark kind ∷ []) c.in-Some.first.front.now (digits ++ (44 ∷ told)) c.in-Some.first.rest.now (plain kind) f.first (e ∙ f.whole)).1
 
 pub returns : goal.returns
 returns c =
     let f = c.in-Some.ensures in
     let s = c.in-Some-cut.ensures in
-    (s.first, ap (λ (q : List ℕ). mark c.in-Some-read-kind.kind ∷ (44 ∷ q)) (sym s.whole) ∙ (ap (λ (q : List ℕ). q ++ (44 ∷ c.in-Some.first.rest.now)) c.in-Some-read-kind.ensures ∙ sym f.whole))
+    (s.first, ap (λ (q : List ℕ). mark c.in-Some-read_kind.kind ∷ (44 ∷ q)) (sym s.whole) ∙ (ap (λ (q : List ℕ). q ++ (44 ∷ c.in-Some.first.rest.now)) c.in-Some-read_kind.ensures ∙ sym f.whole))

@@ -11,11 +11,11 @@ use Rattle.planwrite.proofs.room.room_after.Goals as goal
 brief : (names : Names) (i : ℕ) (name : List ℕ) → name ≡ get_or (texts names) i [] → length name ≤ 12
 brief names i name e = subst (λ (zs : List ℕ). length zs ≤ 12) (sym e) (short names i)
 
-pub room-after-net-requires : goal.room-after-net-requires
-room-after-net-requires g c = brief c.args.names.now (c.loop-i.i + 1 - 1) c.in-Some.name.now c.in-Some.ensures.2
+pub room_after_net-requires : goal.room_after_net-requires
+room_after_net-requires g c = brief c.args.names.now (c.loop-i.i + 1 - 1) c.in-Some.name.now c.in-Some.ensures.2
 
-pub returns-in-default-room-after-net : goal.returns-in-default-room-after-net
-returns-in-default-room-after-net g c =
+pub returns-in_default-room_after_net : goal.returns-in_default-room_after_net
+returns-in_default-room_after_net g c =
     let text = g.A.Address.text in
     let names = texts c.args.names.now in
     let runs = c.args.runs.now in
@@ -24,7 +24,7 @@ returns-in-default-room-after-net g c =
     let found = c.in-Some.ensures in
     let step = nets_step text names runs i name (omega arith) found.2 in
     let rest = length-append (net_text text (i + 1) name runs) (nets_text text (i + 1 + 1) (drop (i + 1) names) runs) in
-    omega (arith, c.in-default-room-after-net.ensures, ap length step)
+    omega (arith, c.in_default-room_after_net.ensures, ap length step)
 
 pub loop-i-preserved : goal.loop-i-preserved
 loop-i-preserved g c =
@@ -36,7 +36,7 @@ loop-i-preserved g c =
     let found = c.in-Some.ensures in
     let step = nets_step text names runs i name (omega arith) found.2 in
     let rest = length-append (net_text text (i + 1) name runs) (nets_text text (i + 1 + 1) (drop (i + 1) names) runs) in
-    omega (arith, c.in-Some-room-after-net.ensures, ap length step)
+    omega (arith, c.in-Some-room_after_net.ensures, ap length step)
 
 pub returns : goal.returns
 returns g c =

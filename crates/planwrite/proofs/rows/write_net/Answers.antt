@@ -9,8 +9,8 @@ use Rattle.planwrite.proofs.rows.write_net.Goals.{then-run-number, else-run-numb
 pub loop-i-init : goal.loop-i-init
 loop-i-init g c = begin (net_text g.A.Address.text c.args.number c.args.name.now c.args.runs.now) c.args.out.now c.args.at
 
-pub write-row-place-requires : goal.write-row-place-requires
-write-row-place-requires g c =
+pub write_row-place-requires : goal.write_row-place-requires
+write_row-place-requires g c =
     let text = g.A.Address.text in
     let n = c.args.number in
     let name = c.args.name.now in
@@ -40,7 +40,7 @@ loop-i-preserved g c =
       | then-run-number w ↦
           let here = net_here text n name runs i r c.loop-i-test.true c.index-runs-i.is w.if-run-number.true in
           part_written all left out c.loop-i.out at c.loop-i.place c.loop-i.invariant (row_of text name r) rest c.if-run-number.out c.if-run-number.place
-          here c.requires (w.out-is ∙ w.write-row-place.ensures.wrote) (w.place-is ∙ w.write-row-place.ensures.end)
+          here c.requires (w.out-is ∙ w.write_row-place.ensures.wrote) (w.place-is ∙ w.write_row-place.ensures.end)
       | else-run-number w ↦
           let past = net_past text n name runs i r c.loop-i-test.true c.index-runs-i.is w.if-run-number.false in
           subst (λ (q : List ℕ). Begun all rest out q at c.if-run-number.place) (sym w.out-is)

@@ -6,8 +6,8 @@ use Rattle.planwrite.specs.Written.{net_text, nets_text, plan_text}
 use Rattle.planwrite.proofs.Writing.{part_fits, part_written, all_written, nets_step}
 use Rattle.planwrite.proofs.rows.write_nets.Goals as goal
 
-pub write-net-place-requires : goal.write-net-place-requires
-write-net-place-requires g c =
+pub write_net-place-requires : goal.write_net-place-requires
+write_net-place-requires g c =
     let text = g.A.Address.text in
     let names = texts c.args.names.now in
     let runs = c.args.runs.now in
@@ -30,8 +30,8 @@ loop-i-preserved g c =
     let found = c.in-Some.ensures in
     let step = nets_step text names runs i name (omega arith) found.2 in
     part_written (plan_text text names runs) (nets_text text (i + 1) (drop i names) runs) c.args.out.now c.loop-i.out 0 c.loop-i.place c.loop-i.invariant
-    (net_text text (i + 1) name runs) (nets_text text (i + 1 + 1) (drop (i + 1) names) runs) c.write-net-place.new.out c.write-net-place.result
-    step (omega arith) c.write-net-place.ensures.wrote c.write-net-place.ensures.end
+    (net_text text (i + 1) name runs) (nets_text text (i + 1 + 1) (drop (i + 1) names) runs) c.write_net-place.new.out c.write_net-place.result
+    step (omega arith) c.write_net-place.ensures.wrote c.write_net-place.ensures.end
 
 pub returns : goal.returns
 returns g c =

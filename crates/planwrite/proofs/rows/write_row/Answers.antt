@@ -3,26 +3,26 @@ use Rattle.std.proofs.Common.{arith}
 use Rattle.planwrite.proofs.Writing.{long_row, row_put}
 use Rattle.planwrite.proofs.rows.write_row.Goals as goal
 
-pub put-text-word-requires : goal.put-text-word-requires
-put-text-word-requires g c = let long = long_row g.A.Address.text c.args.name.now c.args.run.now in omega arith
+pub put_text-word-requires : goal.put_text-word-requires
+put_text-word-requires g c = let long = long_row g.A.Address.text c.args.name.now c.args.run.now in omega arith
 
-pub put-text-named-requires : goal.put-text-named-requires
-put-text-named-requires g c = let long = long_row g.A.Address.text c.args.name.now c.args.run.now in omega arith
+pub put_text-named-requires : goal.put_text-named-requires
+put_text-named-requires g c = let long = long_row g.A.Address.text c.args.name.now c.args.run.now in omega arith
 
-pub put-byte-comma-requires : goal.put-byte-comma-requires
-put-byte-comma-requires g c = let long = long_row g.A.Address.text c.args.name.now c.args.run.now in omega arith
+pub put_byte-comma-requires : goal.put_byte-comma-requires
+put_byte-comma-requires g c = let long = long_row g.A.Address.text c.args.name.now c.args.run.now in omega arith
 
-pub write-text-low-requires : goal.write-text-low-requires
-write-text-low-requires g c = let long = long_row g.A.Address.text c.args.name.now c.args.run.now in omega arith
+pub write_text-low-requires : goal.write_text-low-requires
+write_text-low-requires g c = let long = long_row g.A.Address.text c.args.name.now c.args.run.now in omega arith
 
-pub put-byte-next-requires : goal.put-byte-next-requires
-put-byte-next-requires g c = let long = long_row g.A.Address.text c.args.name.now c.args.run.now in omega arith
+pub put_byte-next-requires : goal.put_byte-next-requires
+put_byte-next-requires g c = let long = long_row g.A.Address.text c.args.name.now c.args.run.now in omega arith
 
-pub write-text-high-requires : goal.write-text-high-requires
-write-text-high-requires g c = let long = long_row g.A.Address.text c.args.name.now c.args.run.now in omega arith
+pub write_text-high-requires : goal.write_text-high-requires
+write_text-high-requires g c = let long = long_row g.A.Address.text c.args.name.now c.args.run.now in omega arith
 
-pub put-byte-requires : goal.put-byte-requires
-put-byte-requires g c = let long = long_row g.A.Address.text c.args.name.now c.args.run.now in omega arith
+pub put_byte-requires : goal.put_byte-requires
+put_byte-requires g c = let long = long_row g.A.Address.text c.args.name.now c.args.run.now in omega arith
 
 pub returns : goal.returns
 returns g c =
@@ -30,13 +30,13 @@ returns g c =
     let name = c.args.name.now in
     let run = c.args.run.now in
     let long = long_row text name run in
-    let a = c.put-text-word in
-    let b = c.put-text-named in
-    let d = c.put-byte-comma in
-    let e = c.write-text-low in
-    let f = c.put-byte-next in
-    let h = c.write-text-high in
-    let z = c.put-byte in
+    let a = c.put_text-word in
+    let b = c.put_text-named in
+    let d = c.put_byte-comma in
+    let e = c.write_text-low in
+    let f = c.put_byte-next in
+    let h = c.write_text-high in
+    let z = c.put_byte in
     record {
       end = omega arith;
       wrote =
