@@ -1,4 +1,6 @@
 // What the matrix programs print: the plan as it was understood, or the one fault line.
+#![tactic(auto)]
+
 mod answer;
 mod fault_line;
 mod run;
