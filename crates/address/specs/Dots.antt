@@ -19,8 +19,8 @@ short4 v h =
     simp length-append (omega arith)
 
 -- an IPv4 text has only digits and dots
-pub lacks4 : (stop v : ℕ) → stop < 46 → v < 2 ^ 32 → Lacks stop (text4 v)
-lacks4 stop v low h =
+pub plain4 : (stop v : ℕ) → stop < 46 → v < 2 ^ 32 → Lacks stop (text4 v)
+plain4 stop v low h =
     let P : ℕ → Type 0 = λ b. b ≡ stop → ⊥ in
     let dot : 46 ≡ stop → ⊥ = λ e. omega arith in
     let d3 : List ℕ = 46 ∷ decimal (v % 256) in
@@ -33,8 +33,8 @@ lacks4 stop v low h =
     )
 
 -- it has no comma and no end of a row
-pub plain4 : (v : ℕ) → v < 2 ^ 32 → Lacks 44 (text4 v) × Lacks 10 (text4 v)
-plain4 v h = (lacks4 44 v (omega arith) h, lacks4 10 v (omega arith) h)
+pub unparted4 : (v : ℕ) → v < 2 ^ 32 → Lacks 44 (text4 v) × Lacks 10 (text4 v)
+unparted4 v h = (plain4 44 v (omega arith) h, plain4 10 v (omega arith) h)
 
 -- a number and a dot tell what follows
 pub after_dot : (m n : ℕ) (r y : List ℕ) → m ≤ 255 → n ≤ 255 → decimal m ++ (46 ∷ r) ≡ decimal n ++ (46 ∷ y) → (m ≡ n) × (r ≡ y)

@@ -70,12 +70,12 @@ pub plain4 : (stop n : ℕ) → stop < 48 → Lacks stop (groups4 n)
 plain4 stop n low = plain_halves stop (groups2 (n / 2 ^ 32)) (groups2 (n % 2 ^ 32)) low (plain2 stop (n / 2 ^ 32) low) (plain2 stop (n % 2 ^ 32) low)
 
 -- an IPv6 text has no byte below '0'
-pub lacks6 : (stop h l : ℕ) → stop < 48 → Lacks stop (text6 h l)
-lacks6 stop h l low = plain_halves stop (groups4 h) (groups4 l) low (plain4 stop h low) (plain4 stop l low)
+pub plain6 : (stop h l : ℕ) → stop < 48 → Lacks stop (text6 h l)
+plain6 stop h l low = plain_halves stop (groups4 h) (groups4 l) low (plain4 stop h low) (plain4 stop l low)
 
 -- it has no comma and no end of a row
-pub plain6 : (h l : ℕ) → Lacks 44 (text6 h l) × Lacks 10 (text6 h l)
-plain6 h l = (lacks6 44 h l (omega arith), lacks6 10 h l (omega arith))
+pub unparted6 : (h l : ℕ) → Lacks 44 (text6 h l) × Lacks 10 (text6 h l)
+unparted6 h l = (plain6 44 h l (omega arith), plain6 10 h l (omega arith))
 
 -- two texts of equal halves are equal by halves
 both : (k : ℕ) (a b x y : List ℕ) → length a ≡ k → length b ≡ k → length x ≡ k → length y ≡ k → a ++ (58 ∷ b) ≡ x ++ (58 ∷ y) → (a ≡ x) × (b ≡ y)

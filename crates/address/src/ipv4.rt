@@ -3,7 +3,7 @@ ghost use Rattle.std.specs.Prelude.{◌≡◌, ◌+◌, ◌<◌, ◌^◌};
 ghost use Rattle.std.proofs.Common.{ap};
 ghost use Rattle.address.specs.Layouts.{layout4};
 ghost use Rattle.address.specs.Texts.{text4};
-ghost use Rattle.address.specs.Dots.{short4, plain4, same4};
+ghost use Rattle.address.specs.Dots.{short4, unparted4, same4};
 ghost use Rattle.address.specs.Heads.{steady4};
 
 use crate::bytes::{read_u16, read_u32};
@@ -134,7 +134,7 @@ impl Address for Ipv4 {
 
     ghost short = { λ a. short4 a.value a.fits };
 
-    ghost plain = { λ a. plain4 a.value a.fits };
+    ghost plain = { λ a. unparted4 a.value a.fits };
 
     ghost tells = { λ a b. same4 a.value b.value a.fits b.fits };
 

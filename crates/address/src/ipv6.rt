@@ -2,7 +2,7 @@
 ghost use Rattle.std.specs.Prelude.{◌≡◌, ◌+◌, ◌*◌, ◌<◌, ◌^◌};
 ghost use Rattle.address.specs.Layouts.{layout6};
 ghost use Rattle.address.specs.Texts.{text6};
-ghost use Rattle.address.specs.Groups.{inside6, short6, plain6, tells6, told6};
+ghost use Rattle.address.specs.Groups.{inside6, short6, unparted6, tells6, told6};
 ghost use Rattle.address.specs.Heads.{steady6};
 
 use crate::bytes::read_u64;
@@ -152,7 +152,7 @@ impl Address for Ipv6 {
 
     ghost short = { λ a. short6 a.high a.low };
 
-    ghost plain = { λ a. plain6 a.high a.low };
+    ghost plain = { λ a. unparted6 a.high a.low };
 
     ghost tells = { λ a b. tells6 a.high a.low b.high b.low a.high_fits a.low_fits b.high_fits b.low_fits };
 
