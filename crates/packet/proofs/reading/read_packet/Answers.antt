@@ -20,8 +20,8 @@ returns-then-header g c =
     let f = later_told g.A.Point.place l bytes c.in-Some.header true says c.if-header.true in
     record { reads = fragment l bytes says.whole f; settled = λ more _. fragment_stays l bytes more says.whole (g.met.A.Address.steady bytes more says.whole) f }
 
-pub returns-then-not-carries-ports : goal.returns-then-not-carries-ports
-returns-then-not-carries-ports g c =
+pub returns-then-not-carries_ports : goal.returns-then-not-carries_ports
+returns-then-not-carries_ports g c =
     let place = g.A.Point.place in
     let l = g.A.Address.layout in
     let bytes = c.args.bytes.now in
@@ -29,7 +29,7 @@ returns-then-not-carries-ports g c =
     let says = c.in-Some.ensures in
     let new = c.new.ensures in
     let f = later_told place l bytes h false says c.if-header.false in
-    let q = c.if-not-carries-ports.ensures in
+    let q = c.if-not-carries_ports.ensures in
     let n : needed l bytes ≤ length bytes = omega (arith, says.whole.within, needs_none l bytes (ports_told place l bytes h false says q)) in
     record {
       reads = reads_plain place l bytes h c.new.result says f n new.source new.destination new.protocol new.port q;
@@ -43,12 +43,12 @@ returns g c =
     let bytes = c.args.bytes.now in
     let h = c.in-Some.header in
     let says = c.in-Some.ensures in
-    let port = c.in-Some-read-port.ensures in
+    let port = c.in-Some-read_port.ensures in
     let new = c.new-2.ensures in
     let f = later_told place l bytes h false says c.if-header.false in
-    let q = c.if-not-carries-ports.ensures in
+    let q = c.if-not-carries_ports.ensures in
     let n : needed l bytes ≤ length bytes = omega (arith, says.end, port.0, needs_ports l bytes (ports_told place l bytes h true says q)) in
     record {
-      reads = reads_port place l bytes h c.new-2.result c.in-Some-read-port.port says f n new.source new.destination new.protocol new.port port.1;
+      reads = reads_port place l bytes h c.new-2.result c.in-Some-read_port.port says f n new.source new.destination new.protocol new.port port.1;
       settled = λ more _. read_stays l bytes more says.whole (g.met.A.Address.steady bytes more says.whole) f n;
     }
