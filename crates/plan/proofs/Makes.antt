@@ -1,7 +1,7 @@
 -- What a declaration makes of a plan.
 use Rattle.std.proofs.Common.{◌≡◌, ℕ, zero, suc, ◌+◌, ◌-◌, ◌<◌, ◌≤◌, Bool, true, false, cond, not, ◌&&◌, eqb, leb, List, [], ◌∷◌, ◌++◌, length, take, drop, set, replicate, codes, sym, refl, ap, ◌∙◌, subst, inl, inr, append_assoc, arith}
 use Rattle.std.specs.Str.{bytes_eq}
-use Rattle.std.specs.List.{AllByRecursion as All}
+use Rattle.std.specs.List.{AllByRecursion}
 use Rattle.std.proofs.lemmas.List.{length-take-le, drop-set-lt, drop-replicate, length-replicate, length-set}
 use Rattle.std.proofs.lemmas.Bool.{false≢true, leb-true, cases_lt}
 use Rattle.std.proofs.lemmas.Bool.Decides.{Decides-eqb}
@@ -97,7 +97,7 @@ module _ {A : Type 0} (place : A → ℕ) (size : ℕ) (ds : List Declaration) (
         names = next_names;
       }
 
-pub blanks : {A : Type 0} (place : A → ℕ) (n : ℕ) (r : Run A ℕ) → Blank place r → All (Blank place) (replicate n r)
+pub blanks : {A : Type 0} (place : A → ℕ) (n : ℕ) (r : Run A ℕ) → Blank place r → AllByRecursion (Blank place) (replicate n r)
 blanks place zero r b = tt
 blanks place (suc n) r b = (b, blanks place n r b)
 
@@ -120,7 +120,7 @@ made_first {A} place size p rows blank r n pos most is b low high label table on
       most = omega arith;
       accepted = tt;
       line = subst (λ (zs : List (Run A ℕ)). Line place size (network_of []) zs) (sym front) (subst (λ (k : ℕ). Line place size (λ x. k) (take 1 (set rows 0 r))) label line);
-      blank = subst (λ (zs : List (Run A ℕ)). All (Blank place) zs) (sym rest) (blanks place (n - 1) blank b);
+      blank = subst (λ (zs : List (Run A ℕ)). AllByRecursion (Blank place) zs) (sym rest) (blanks place (n - 1) blank b);
       names = none;
     }
 

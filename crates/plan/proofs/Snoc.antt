@@ -1,7 +1,7 @@
 -- One declaration more.
 use Rattle.std.proofs.Common.{◌≡◌, ℕ, ◌+◌, ◌≤◌, Bool, true, false, cond, ◌&&◌, leb, List, [], ◌∷◌, ◌++◌, length, sym, refl, ap, ◌∙◌, arith}
 use Rattle.std.specs.Str.{bytes_eq}
-use Rattle.std.specs.List.{AllByRecursion as All}
+use Rattle.std.specs.List.{AllByRecursion}
 use Rattle.std.proofs.lemmas.List.{length-append}
 use Rattle.std.proofs.lemmas.Slice.Eq.{bytes_eq-Decides}
 use Rattle.std.proofs.lemmas.Bool.{and_parts, leb-true}
@@ -73,7 +73,7 @@ has_after : (ns : List (List ℕ)) (ds : List Declaration) (m : List ℕ) → nu
 has_after ns [] m h = h
 has_after ns (d ∷ ds) m h = has_after (with_name ns d.name) ds m (has_with ns d.name m h)
 
-all_has : (ns : List (List ℕ)) (ds : List Declaration) → All (λ e. number_in (names_after ns ds) e.name ≤ length (names_after ns ds)) ds
+all_has : (ns : List (List ℕ)) (ds : List Declaration) → AllByRecursion (λ e. number_in (names_after ns ds) e.name ≤ length (names_after ns ds)) ds
 all_has ns [] = tt
 all_has ns (d ∷ ds) = (has_after (with_name ns d.name) ds d.name (has_new ns d.name), all_has (with_name ns d.name) ds)
 
@@ -92,7 +92,7 @@ step false false k k' num r s e pos h ih = ih h
 
 network_push : (ns ns' : List (List ℕ)) (es : List Declaration) (d : Declaration) (x : ℕ)
     → ((m : List ℕ) → number_in ns m ≤ length ns → number_in ns' m ≡ number_in ns m)
-    → All (λ e. number_in ns e.name ≤ length ns) es
+    → AllByRecursion (λ e. number_in ns e.name ≤ length ns) es
     → ((leb d.low x && leb x d.high) ≡ true → network_in ns es x ≡ 0)
     → network_in ns' (es ++ d ∷ []) x ≡ cond (leb d.low x && leb x d.high) (number_in ns' d.name) (network_in ns es x)
 network_push ns ns' [] d x same all free = refl

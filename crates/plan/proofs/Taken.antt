@@ -1,6 +1,6 @@
 -- What accepted declarations say.
 use Rattle.std.proofs.Common.{◌≡◌, ℕ, ◌<◌, ◌≤◌, true, ◌⊎◌, List, [], ◌∷◌, ◌++◌, length, sym, refl, ◌∙◌, subst, inl, inr, arith}
-use Rattle.std.specs.List.{AllByRecursion as All}
+use Rattle.std.specs.List.{AllByRecursion}
 use Rattle.std.proofs.lemmas.List.{append-nil, append_assoc, length-append}
 use Rattle.std.proofs.ByRecursion.{All-push}
 use Rattle.std.proofs.lemmas.Bool.{cases_lt}
@@ -20,7 +20,7 @@ over_in f low high l x a b = grind (arith, nat_tests)
 
 -- the names are well formed and few, each of them has a place, and one place is elsewhere
 pub record Taken (size : ℕ) (ns : List (List ℕ)) (f : ℕ → ℕ) : Type 0 where
-  pub formed : All (λ (m : List ℕ). well_formed m ≡ true) ns
+  pub formed : AllByRecursion (λ (m : List ℕ). well_formed m ≡ true) ns
   pub few : length ns ≤ 24
   pub used : (n : ℕ) → 0 < n → n ≤ length ns → (x : ℕ) × (x < size) × (f x ≡ n)
   pub elsewhere : (x : ℕ) × (x < size) × (f x ≡ 0)

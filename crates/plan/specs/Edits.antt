@@ -1,6 +1,6 @@
 -- An edit of a plan: what its checks promise, and what is left when it is made. No user of a plan meets these.
 use Rattle.std.specs.Prelude.{◌≡◌, ℕ, ◌+◌, ◌<◌, ◌≤◌, Bool, cond, List, [], ◌∷◌, ◌++◌, length, take, drop, Some, None, Option, Result, MatchResult, nat_le}
-use Rattle.std.specs.List.{AllByRecursion as All}
+use Rattle.std.specs.List.{AllByRecursion}
 use Rattle.refusal.specs.declared.refusal.Refusal.{Refusal}
 use Rattle.refusal.specs.declared.refusal.Refusal.TheVariants.{RangeReversed, FieldMalformed, TooManyNames}
 use Rattle.line.specs.Line.{Line, over}
@@ -44,5 +44,5 @@ pub record Entered {A : Type 0} (place : A → ℕ) (p q : Plan A) (name : List 
   pub count : q.count ≡ count_after e.change p.count
   pub long : length q.rows.now ≡ length p.rows.now
   pub rows : take q.count q.rows.now ≡ changed e.change (take p.count p.rows.now)
-  pub blank : All (Blank place) (drop p.count p.rows.now) → All (Blank place) (drop q.count q.rows.now)
+  pub blank : AllByRecursion (Blank place) (drop p.count p.rows.now) → AllByRecursion (Blank place) (drop q.count q.rows.now)
   pub names : texts q.names ≡ cond (nat_le e.number (length (texts p.names))) (texts p.names) (texts p.names ++ name ∷ [])

@@ -1,6 +1,6 @@
 -- What a plan holds. `place` says where an address stands among `size`.
 use Rattle.std.specs.Prelude.{◌≡◌, ℕ, ◌<◌, ◌≤◌, Bool, ◌&&◌, List, [], ◌∷◌, ◌++◌, length, take, drop, Result, MatchResult, nat_le}
-use Rattle.std.specs.List.{AllByRecursion as All}
+use Rattle.std.specs.List.{AllByRecursion}
 use Rattle.refusal.specs.declared.refusal.Refusal.{Refusal}
 use Rattle.line.specs.declared.run.Run.{Run}
 use Rattle.line.specs.Line.{Line}
@@ -31,7 +31,7 @@ pub record Made {A : Type 0} (place : A → ℕ) (size : ℕ) (ds : List Declara
   pub most : length p.rows.now ≤ 4096
   pub accepted : Accepts size (length p.rows.now) [] ds
   pub line : Line place size (network_of ds) (take p.count p.rows.now)
-  pub blank : All (Blank place) (drop p.count p.rows.now)
+  pub blank : AllByRecursion (Blank place) (drop p.count p.rows.now)
   pub names : texts p.names ≡ names_of ds
 
 -- the declaration of a name for the addresses from low to high

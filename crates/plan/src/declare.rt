@@ -1,6 +1,6 @@
 // Declaring a range of addresses: all checks first, and then an edit that cannot fail.
 ghost use Rattle.std.specs.Prelude.{◌≡◌, ◌≤◌, length, take, drop, Err, MatchResult};
-ghost use Rattle.std.specs.List.{AllByRecursion as All};
+ghost use Rattle.std.specs.List.{AllByRecursion};
 ghost use Rattle.refusal.specs.declared.refusal.Refusal.TheVariants as cause;
 ghost use Rattle.splice.specs.Changes.{changed, count_after, Apt};
 ghost use Rattle.plan.specs.Made.{Blank, Shut, Declares, declaration};
@@ -37,7 +37,7 @@ fn change_rows<A: Point>(rows: &mut [Run<A, u8>], old: usize, change: &Change<A,
     requires room { count_after change.now old ≤ length rows.old }
     ensures count { result ≡ count_after change.now old }
     ensures list { take result rows.new ≡ changed change.now (take old rows.old) }
-    ensures blank { All (Blank A.Point.place) (drop old rows.old) → All (Blank A.Point.place) (drop result rows.new) }
+    ensures blank { AllByRecursion (Blank A.Point.place) (drop old rows.old) → AllByRecursion (Blank A.Point.place) (drop result rows.new) }
 {
     let count = apply(rows, old, change);
     if count < old {

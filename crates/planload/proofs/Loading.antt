@@ -1,5 +1,5 @@
 -- One row more of a text that is loaded.
-use Rattle.std.proofs.Common.{◌≡◌, ℕ, ◌+◌, ◌<◌, ◌≤◌, Bool, true, false, List, [], ◌∷◌, ◌++◌, Some, None, Option, sym, refl, ap, ◌∙◌, subst, append_assoc}
+use Rattle.std.proofs.Common.{◌≡◌, ℕ, ◌+◌, true, false, List, [], ◌∷◌, ◌++◌, Some, None, Option, sym, refl, ap, subst, append_assoc}
 use Rattle.plan.specs.Declarations.{Declaration}
 use Rattle.plan.specs.Accepted.{Accepted}
 use Rattle.plan.specs.Made.{Made}

@@ -1,5 +1,5 @@
 use Rattle.std.proofs.Common.{◌≡◌, ℕ, ◌+◌, ◌-◌, ◌≤◌, List, ◌++◌, length, drop, replicate, sym, refl, ap, ◌∙◌, subst, arith}
-use Rattle.std.specs.List.{AllByRecursion as All}
+use Rattle.std.specs.List.{AllByRecursion}
 use Rattle.std.proofs.ByRecursion.{All-append, All-drop}
 use Rattle.std.proofs.lemmas.List.{drop-drop}
 use Rattle.line.specs.declared.run.Run.{Run}
@@ -26,7 +26,7 @@ returns-then-count-old g c =
       list = filled_front void rows ys n k fits c.fill.ensures ∙ c.apply-count.ensures.list;
       blank = λ all.
           let rest : drop (n + k) rows ≡ drop old c.args.rows.now = ap (λ (m : ℕ). drop m rows) up ∙ c.apply-count.ensures.rest old (omega arith) (omega (arith, c.if-count-old.true)) in
-          subst (λ (zs : List (Run _ ℕ)). All (Blank place) zs)
+          subst (λ (zs : List (Run _ ℕ)). AllByRecursion (Blank place) zs)
           (sym (filled_after void rows ys n k fits c.fill.ensures ∙ ap (λ (zs : List (Run _ ℕ)). replicate k void ++ zs) rest))
           (All-append (Blank place) (replicate k void) (drop old c.args.rows.now) (blanks place k void blank) all);
     }
@@ -43,7 +43,7 @@ returns-else-count-old g c =
       count = c.apply-count.ensures.size;
       list = c.apply-count.ensures.list;
       blank = λ all.
-          subst (λ (zs : List (Run _ ℕ)). All (Blank place) zs)
+          subst (λ (zs : List (Run _ ℕ)). AllByRecursion (Blank place) zs)
           (drop-drop k old c.args.rows.now ∙ ap (λ (m : ℕ). drop m c.args.rows.now) up ∙ sym (c.apply-count.ensures.rest n (omega (arith, c.if-count-old.false)) (omega arith)))
           (All-drop (Blank place) k (drop old c.args.rows.now) all);
     }

@@ -1,14 +1,13 @@
-use Rattle.std.proofs.Common.{◌≡◌, ℕ, ◌+◌, ◌<◌, ◌≤◌, List, [], ◌∷◌, ◌++◌, length, Some, None, Ok, Err, Option, Result, sym, refl, ap, ◌∙◌, subst, arith, eqb-true}
+use Rattle.std.proofs.Common.{◌≡◌, ℕ, ◌+◌, List, ◌++◌, length, Some, None, Err, sym, refl, ap, ◌∙◌, subst, arith, eqb-true}
 use borrow.Author.Tests.{eqb-false}
 use Rattle.std.proofs.lemmas.Result.{err_from_is_err_and}
 use Rattle.refusal.specs.declared.fault.Fault.{Fault}
 use Rattle.text.specs.Parts.{rows}
 use Rattle.text.specs.Cursors.{rows_left}
 use Rattle.plan.specs.declared.plan.Plan.{Plan}
-use Rattle.plan.specs.Declarations.{Declaration}
 use Rattle.plan.specs.Accepted.{Accepted}
 use Rattle.plan.specs.Made.{Made}
-use Rattle.planload.specs.Loads.{Fails, Loads, fault_in}
+use Rattle.planload.specs.Loads.{Fails, fault_in}
 use Rattle.planload.proofs.Loading.{Goes, go_first, go_past, go_on, go_fault, go_end}
 use Rattle.planload.proofs.Only.{outcome}
 use Rattle.planload.proofs.load.load_plan.Goals as goal

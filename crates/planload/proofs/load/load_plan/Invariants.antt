@@ -1,4 +1,4 @@
-use Rattle.std.proofs.Common.{◌≡◌, ℕ, ◌+◌, List, length}
+use Rattle.std.proofs.Common.{◌≡◌, ◌+◌, List, length}
 use Rattle.text.specs.Parts.{rows}
 use Rattle.text.specs.Cursors.{rows_left, bytes_left}
 use Rattle.plan.specs.Declarations.{Declaration}

@@ -1,4 +1,4 @@
-use Rattle.std.proofs.Common.{◌≡◌, refl, zero-le}
+use Rattle.std.proofs.Common.{refl, zero-le}
 use Rattle.plan.specs.Declarations.{Declaration}
 use Rattle.planload.specs.Loads.{Says, Fails}
 use Rattle.planload.proofs.load.load_row.Goals as goal

@@ -1,4 +1,4 @@
-use Rattle.std.proofs.Common.{◌≡◌, ℕ, List, sym, ap, ◌∙◌, subst}
+use Rattle.std.proofs.Common.{ℕ, List, sym, ap, ◌∙◌, subst}
 use Rattle.refusal.specs.declared.refusal.Refusal.TheVariants.{FieldMalformed}
 use Rattle.refusal.specs.Faults.{fault}
 use Rattle.planload.specs.Loads.{Net, Unread}
