@@ -1,5 +1,5 @@
--- The four numbers of an IPv4 text.
-use Rattle.std.specs.Prelude.{◌≡◌, ℕ, ◌+◌, ◌/◌, ◌%◌, ◌^◌, ◌<◌, ◌≤◌, List, ◌∷◌, ◌++◌, length, decimal}
+-- The four numbers of an IPv4 text, and its laws.
+use Rattle.std.specs.Prelude.{◌≡◌, ℕ, ◌/◌, ◌%◌, ◌^◌, ◌<◌, ◌≤◌, List, ◌∷◌, ◌++◌, length, decimal}
 use Rattle.std.proofs.Common.{arith}
 use Rattle.std.proofs.lemmas.Fmt.{length-decimal-le, decimal_injective}
 use Rattle.std.proofs.ByRecursion.{All-append}
@@ -50,7 +50,3 @@ same4 v w hv hw e =
     let c = after_dot (v / 2 ^ 8 % 256) (w / 2 ^ 8 % 256) _ _ (omega arith) (omega arith) b.1 in
     let d = decimal_injective (v % 256) (w % 256) (omega arith) (omega arith) c.1 in
     omega (arith, a.0, b.0, c.0)
-
--- the length of an IPv4 text: four numbers and three dots
-pub long4 : (v : ℕ) → length (text4 v) ≡ length (decimal (v / 16777216)) + (length (decimal (v / 65536 % 256)) + (length (decimal (v / 256 % 256)) + (length (decimal (v % 256)) + 3)))
-long4 v = simp length-append (omega arith)

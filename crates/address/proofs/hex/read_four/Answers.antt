@@ -1,7 +1,8 @@
 -- The number that the four groups are written from, and no number has other halves.
 use Rattle.std.proofs.Common.{◌/◌, ◌%◌, ◌^◌, sym, refl, arith}
 use Rattle.address.specs.Texts.{groups2}
-use Rattle.address.specs.Groups.{four_of, halved}
+use Rattle.address.specs.Groups.{halved}
+use Rattle.address.proofs.Groups.{four_of}
 use Rattle.address.proofs.hex.read_four.Goals as goal
 
 pub returns : goal.returns

@@ -1,6 +1,6 @@
 -- The number that the four digits are written from.
 use Rattle.std.proofs.Common.{◌≡◌, length, arith, rules}
-use Rattle.address.specs.Groups.{group_of}
+use Rattle.address.proofs.Groups.{group_of}
 use Rattle.address.proofs.hex.read_group.Goals as goal
 
 pub returns : goal.returns

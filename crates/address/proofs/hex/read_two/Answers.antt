@@ -1,6 +1,6 @@
 -- The number that the two groups are written from.
 use Rattle.std.proofs.Common.{sym, arith}
-use Rattle.address.specs.Groups.{two_of}
+use Rattle.address.proofs.Groups.{two_of}
 use Rattle.address.proofs.hex.read_two.Goals as goal
 
 pub returns : goal.returns

@@ -4,7 +4,7 @@ use Rattle.std.proofs.lemmas.List.{length-append}
 use Rattle.text.specs.Buffers.{put}
 use Rattle.text.proofs.Putting.{put_then}
 use Rattle.address.specs.Texts.{text4}
-use Rattle.address.specs.Dots.{long4}
+use Rattle.address.proofs.Dots.{long4}
 use Rattle.address.proofs.ipv4.Ipv4Address.write_text.Goals as goal
 
 pub write_dotted-b-requires : goal.write_dotted-b-requires

@@ -1,7 +1,7 @@
 -- The address whose halves are the halves of the text.
 use Rattle.std.proofs.Common.{ℕ, sym, ap, ◌∙◌}
 use Rattle.address.specs.Texts.{groups4, text6}
-use Rattle.address.specs.Groups.{joined}
+use Rattle.address.proofs.Groups.{joined}
 use Rattle.address.proofs.ipv6.Ipv6Address.read_text.Goals as goal
 
 pub returns : goal.returns
