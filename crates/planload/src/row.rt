@@ -37,7 +37,7 @@ fn part_row(row: &[u8]) -> Option<NetRow<'_>>
     if let Some(_) = fields.next() {
         return None;
     }
-    if word.bytes == b"net" {
+    if word.bytes == b"net".as_slice() {
         return Some(NetRow { name, low, high });
     }
     None

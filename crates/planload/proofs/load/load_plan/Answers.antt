@@ -13,9 +13,9 @@ use Rattle.planload.proofs.Loading.{Goes, go_first, go_past, go_on, go_fault, go
 use Rattle.planload.proofs.Only.{outcome}
 use Rattle.planload.proofs.load.load_plan.Goals as goal
 
-pub returns-then-is-shut : goal.returns-then-is-shut
-returns-then-is-shut g c =
-    let z : c.args.plan.now.count ≡ 0 = eqb-true _ _ (sym c.if-is-shut.ensures) in
+pub returns-then-is_shut : goal.returns-then-is_shut
+returns-then-is_shut g c =
+    let z : c.args.plan.now.count ≡ 0 = eqb-true _ _ (sym c.if-is_shut.ensures) in
     record {
       shut = λ _. (ap Err c.new.ensures, refl);
       over = λ p _. absurd (omega arith);
@@ -26,7 +26,7 @@ returns-then-is-shut g c =
 
 pub returns-then-text-gt-LONGEST : goal.returns-then-text-gt-LONGEST
 returns-then-text-gt-LONGEST g c = record {
-  shut = λ z. absurd (eqb-false _ _ (sym c.if-is-shut.ensures) z);
+  shut = λ z. absurd (eqb-false _ _ (sym c.if-is_shut.ensures) z);
   over = λ _ _. (ap Err c.new-then-text-gt-LONGEST.ensures, refl);
   loads = λ ds made h. absurd (omega (arith, c.if-text-gt-LONGEST.true));
   long = refl;
@@ -45,12 +45,12 @@ loop-row-init g c = (
       (go_first g.A.Address.text g.A.Point.place g.A.Point.size (length c.args.plan.now.rows.now) ds (rows c.args.text.now) c.args.plan.now made)),
 )
 
-pub loop-row-preserved-in-Continue· : goal.loop-row-preserved-in-Continue·
-loop-row-preserved-in-Continue· g c =
+pub loop-row-preserved-in-Continue-1 : goal.loop-row-preserved-in-Continue-1
+loop-row-preserved-in-Continue-1 g c =
     let inv = c.loop-row.invariant in
     let row = c.in-Some.row in
     let step = c.in-Some.ensures in
-    let got = c.in-ok-load-row.ensures in
+    let got = c.in_ok-load_row.ensures in
     let text = g.A.Address.text in
     let place = g.A.Point.place in
     let size = g.A.Point.size in
@@ -59,7 +59,7 @@ loop-row-preserved-in-Continue· g c =
     let before = c.loop-row.rows in
     let after = c.next.new.self in
     let p = c.loop-row.plan in
-    let q = c.load-row.new.plan in
+    let q = c.load_row.new.plan in
     let long : length q.rows.now ≡ most = got.long ∙ inv.0 in (
       long,
       got.lent ∙ inv.1,
@@ -68,7 +68,7 @@ loop-row-preserved-in-Continue· g c =
           let e = got.loads (ds ++ go.m) go.made in
           let next : before.line + 1 + 1 ≡ after.line + 1 = omega (arith, step.line, step.counted) in
           subst (λ (n : ℕ). Goes text place size most ds all q n (rows_left after)) next
-          (go_on text place size most ds all p q (before.line + 1) (rows_left before) row.bytes.now (rows_left after) step.left (sym c.if-not-is-passed-over.ensures) go
+          (go_on text place size most ds all p q (before.line + 1) (rows_left before) row.bytes.now (rows_left after) step.left (sym c.if-not-is_passed_over.ensures) go
           e.said e.says (subst (λ (n : ℕ). Accepted size n (ds ++ go.m) e.said) long e.accepted) e.made),
     )
 
@@ -89,15 +89,15 @@ loop-row-preserved g c =
       λ ds made.
           let next : before.line + 1 + 1 ≡ after.line + 1 = omega (arith, step.line, step.counted) in
           subst (λ (n : ℕ). Goes text place size most ds all c.loop-row.plan n (rows_left after)) next
-          (go_past text place size most ds all c.loop-row.plan (before.line + 1) (rows_left before) row.bytes.now (rows_left after) step.left (sym c.if-not-is-passed-over.ensures) (inv.2 ds made)),
+          (go_past text place size most ds all c.loop-row.plan (before.line + 1) (rows_left before) row.bytes.now (rows_left after) step.left (sym c.if-not-is_passed_over.ensures) (inv.2 ds made)),
     )
 
-pub returns-in-err-load-row : goal.returns-in-err-load-row
-returns-in-err-load-row g c =
+pub returns-in_err-load_row : goal.returns-in_err-load_row
+returns-in_err-load_row g c =
     let inv = c.loop-row.invariant in
     let row = c.in-Some.row in
     let step = c.in-Some.ensures in
-    let got = c.in-err-load-row.ensures in
+    let got = c.in_err-load_row.ensures in
     let text = g.A.Address.text in
     let place = g.A.Point.place in
     let size = g.A.Point.size in
@@ -106,22 +106,22 @@ returns-in-err-load-row g c =
     let before = c.loop-row.rows in
     let after = c.next.new.self in
     let p = c.loop-row.plan in
-    let q = c.load-row.new.plan in
+    let q = c.load_row.new.plan in
     let long : length q.rows.now ≡ most = got.long ∙ inv.0 in
-    let back = err_from_is_err_and c.from-residual.result c.from-residual.ensures.1 in
+    let back = err_from_is_err_and c.from_residual.result c.from_residual.ensures.1 in
     record {
-      shut = λ z. absurd (eqb-false _ _ (sym c.if-is-shut.ensures) z);
+      shut = λ z. absurd (eqb-false _ _ (sym c.if-is_shut.ensures) z);
       over = λ _ h. absurd (omega (arith, c.if-text-gt-LONGEST.false));
       loads = λ ds made h.
           let go = inv.2 ds made in
           let why = got.loads (ds ++ go.m) go.made in
-          let f : Fault = c.in-err-load-row.field-0.0 in
+          let f : Fault = c.in_err-load_row.field-0.0 in
           let failed : Fails text place size most (ds ++ go.m) (before.line + 1) row.bytes.now f =
           subst (λ (n : ℕ). Fails text place size most (ds ++ go.m) n row.bytes.now f) step.line
           (subst (λ (n : ℕ). Fails text place size n (ds ++ go.m) row.line row.bytes.now f) inv.0 why) in
-          let done = go_fault text place size most ds all p (before.line + 1) (rows_left before) row.bytes.now (rows_left after) f step.left (sym c.if-not-is-passed-over.ensures) go failed in
-          let end : Some f ≡ fault_in c.from-residual.result = sym (ap fault_in back.1 ∙ ap Some back.2) in
-          outcome text place size most ds c.args.text.now go.m (Some f) c.from-residual.result q long
+          let done = go_fault text place size most ds all p (before.line + 1) (rows_left before) row.bytes.now (rows_left after) f step.left (sym c.if-not-is_passed_over.ensures) go failed in
+          let end : Some f ≡ fault_in c.from_residual.result = sym (ap fault_in back.1 ∙ ap Some back.2) in
+          outcome text place size most ds c.args.text.now go.m (Some f) c.from_residual.result q long
           (subst (λ (z : Plan g.row.A.Denot). Made place size (ds ++ go.m) z) (sym got.refused) go.made) done end g.met.A.Address.tells;
       long = long;
       lent = got.lent ∙ inv.1;
@@ -136,9 +136,9 @@ returns g c =
     let most = length c.args.plan.now.rows.now in
     let all = rows c.args.text.now in
     let p = c.loop-row.plan in
-    let end = c.in-default.ensures in
+    let end = c.in_default.ensures in
     record {
-      shut = λ z. absurd (eqb-false _ _ (sym c.if-is-shut.ensures) z);
+      shut = λ z. absurd (eqb-false _ _ (sym c.if-is_shut.ensures) z);
       over = λ _ h. absurd (omega (arith, c.if-text-gt-LONGEST.false));
       loads = λ ds made h.
           let go = inv.2 ds made in

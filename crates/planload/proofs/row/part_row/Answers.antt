@@ -6,13 +6,13 @@ use Rattle.std.proofs.lemmas.Bool.Decides.{Decides-eqb}
 
 pub returns-then-eq : goal.returns-then-eq
 returns-then-eq c =
-    let word : c.in-Some.word.bytes.now ≡ codes "net" = (slice_eq-Decides Decides-eqb _ _ _ c.eq.ensures).0 c.if-eq.true in
+    let word : c.in-Some.word.bytes.now ≡ codes "net" = (slice_eq-Decides Decides-eqb _ _ _ c.eq.ensures).0 c.if-eq.true ∙ c.as_slice.ensures in
     let zero = c.new-fields.ensures.number in
     let one = c.in-Some.ensures in
     let two = c.in-Some-next.ensures in
     let three = c.in-Some-next-2.ensures in
     let four = c.in-Some-next-3.ensures in
-    let none = c.in-default-next-4.ensures in
+    let none = c.in_default-next-4.ensures in
     let a = c.new-fields.ensures.left in
     let shape = sym a ∙ one.left
     ∙ ap (λ (q : List (List ℕ)). c.in-Some.word.bytes.now ∷ q) (two.left
