@@ -1,9 +1,8 @@
 -- The decider is the first rule that decides.
-use Rattle.std.proofs.Common.{◌≡◌, ℕ, zero, suc, ◌+◌, ◌<◌, ◌≤◌, Bool, true, false, cond, ◌⊎◌, List, [], ◌∷◌, map, length, get_or, Some, None, Option, sym, refl, ap, ◌∙◌, subst, inl, inr, arith}
+use Rattle.std.proofs.Common.{◌≡◌, ℕ, zero, suc, ◌<◌, Bool, true, false, cond, List, [], ◌∷◌, length, get_or, Some, None, Option, sym, refl, ap, ◌∙◌, subst, inl, inr, arith}
 use Rattle.std.proofs.lemmas.Bool.{cases_Bool}
 use Rattle.rules.specs.declared.rule.Rule.{Rule}
-use Rattle.rules.specs.declared.action.Action.{Action}
-use Rattle.rules.specs.Decisions.{decides, decider, action_of, decision}
+use Rattle.rules.specs.Decisions.{decides, decider, action_of}
 use Rattle.rules.specs.Policies.{AnswersDecider, First, FirstDecides, rule_policy, or_else}
 
 one : (b : Bool) (r : Rule) (rest : Option Rule) → or_else (cond b (Some r.action) None) (action_of rest) ≡ action_of (cond b (Some r) rest)

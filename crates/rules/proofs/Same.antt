@@ -1,10 +1,7 @@
 -- Two rules with the same parts are the same.
-use Rattle.std.proofs.Common.{◌≡◌, ℕ, ◌^◌, ◌<◌, Bool}
+use Rattle.std.proofs.Common.{◌≡◌, ℕ, ◌^◌, ◌<◌}
 use mathlib.Core.Path.{PathP, to_path_p}
 use native.Mathlib.Bridge.{le_prop}
-use Rattle.service.specs.declared.span.Span.{Span}
-use Rattle.rules.specs.declared.action.Action.{Action}
-use Rattle.rules.specs.declared.end.End.{End}
 use Rattle.rules.specs.declared.rule.Rule.{Rule}
 
 below_over : (n a b : ℕ) (p : a ≡ b) (x : a < n) (y : b < n) → PathP (λ i. p i < n) x y

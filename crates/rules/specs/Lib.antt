@@ -1,4 +1,5 @@
 pub mod Actions
+pub mod ActionLemmas
 pub mod Ends
 pub mod Decisions
 pub mod Policies

@@ -1,5 +1,6 @@
 // What a rule does with the packets that it decides.
 ghost use Rattle.rules.specs.Actions.{alike_actions};
+ghost use Rattle.rules.specs.ActionLemmas.{actions_tell};
 ghost use Rattle.std.proofs.Common.{rules};
 
 use line::Label;
@@ -13,7 +14,7 @@ pub enum Action {
 impl Label for Action {
     ghost alike = { alike_actions };
 
-    ghost tells = { Prim.search rules };
+    ghost tells = { actions_tell };
 
     ghost told = { Prim.search rules };
 }

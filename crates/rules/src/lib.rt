@@ -1,4 +1,6 @@
 // Rules: what they cover, which one decides, and the labellings of a pair of networks that they tell.
+#![tactic(auto)]
+
 mod action;
 mod covers;
 mod deciders;

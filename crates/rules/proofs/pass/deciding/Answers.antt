@@ -1,6 +1,6 @@
 use Rattle.std.proofs.Common.{◌≡◌, ◌-◌, ◌<◌, ◌≤◌, min, sym, ap, arith, ltb-false, ltb-true}
 use Rattle.service.specs.Spans.{place_of, first_place, last_place}
-use Rattle.rules.proofs.Passes.{Passed, passed_more, passed_found, passed_all, off, too_low, too_high, on}
+use Rattle.rules.proofs.Passes.{passed_more, passed_found, passed_all, off, too_low, too_high, on}
 use Rattle.rules.proofs.pass.deciding.Goals as goal
 use Rattle.rules.proofs.pass.deciding.Goals.{then-applies+then-before, then-applies+else-before+else-not-before, else-applies}
 
@@ -24,9 +24,9 @@ loop-rule-preserved c =
     let more = passed_more c.args.rules.now c.args.from c.args.to s c.loop-rule.rule-index r (place_of c.loop-rule.end) c.loop-rule-test.true c.rule-item.is c.loop-rule.invariant next in
     elim c.if-applies.branch [
       | then-applies+then-before w ↦
-          let e : next ≡ place_of w.last-before-end.result = ap place_of w.end-is in
+          let e : next ≡ place_of w.last_before-end.result = ap place_of w.end-is in
           let low : s < first_place r.span = omega (arith, w.first-first.ensures, ltb-true _ _ (sym w.if-before.ensures)) in
-          let end : place_of w.last-before-end.result ≡ min (place_of w.first-first.result - 1) (place_of c.loop-rule.end) = w.last-before-end.ensures in
+          let end : place_of w.last_before-end.result ≡ min (place_of w.first-first.result - 1) (place_of c.loop-rule.end) = w.last_before-end.ensures in
           let first = w.first-first.ensures in
           more (omega (arith, c.loop-rule.invariant.ordered)) (omega arith) (λ x a b. too_low r c.args.from c.args.to x (omega arith))
       | then-applies+else-before+else-not-before w ↦
