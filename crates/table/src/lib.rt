@@ -1,4 +1,6 @@
 // The plain table of rules: up to 128 of them, in order, and what may be done with one of them.
+#![tactic(auto)]
+
 mod edits;
 mod places;
 mod table;

@@ -1,8 +1,8 @@
-use Rattle.std.proofs.Common.{◌≡◌, ◌+◌, cond, eqb, List, get_or, drop, Some, None, Option, sym, ap, ◌∙◌, arith}
+use Rattle.std.proofs.Common.{List, sym, ap, ◌∙◌}
 use Rattle.rules.specs.declared.rule.Rule.{Rule}
-use Rattle.std.proofs.lemmas.List.{drop_more, drop_all}
+use Rattle.std.proofs.lemmas.List.{drop_all}
 use Rattle.std.proofs.lemmas.Bool.{cond-true, cond-false, eq-eqb, ne_eqb}
-use Rattle.table.specs.Held.{position, position_from}
+use Rattle.table.specs.Held.{position_from}
 use Rattle.table.proofs.Holds.{position_more}
 use Rattle.table.proofs.places.position_of.Goals as goal
 

@@ -1,6 +1,4 @@
-use Rattle.std.proofs.Common.{◌≡◌, sym, ap, ◌∙◌, arith}
-use Rattle.rules.specs.declared.rule.Rule.{Rule}
-use Rattle.std.specs.List.{insert, remove}
+use Rattle.std.proofs.Common.{arith}
 use Rattle.table.specs.Held.{held}
 use Rattle.table.proofs.Holds.{moved_is, held_length}
 use Rattle.table.proofs.table.RuleTable.move_to.Goals as goal
