@@ -1,4 +1,6 @@
 // A ruleset: rules in order, and the sheet of each pair of networks, which is always that of the rules.
+#![tactic(auto)]
+
 mod check;
 mod compare;
 mod decide;

@@ -1,5 +1,5 @@
 -- The sheets of the pairs that an edit leaves alone.
-use Rattle.std.proofs.Common.{◌≡◌, ℕ, ◌*◌, ◌^◌, ◌≤◌, List, length, drop, Option, ap, subst, arith}
+use Rattle.std.proofs.Common.{◌≡◌, ℕ, ◌*◌, ◌^◌, List, drop, Option, ap, subst, arith}
 use Rattle.std.proofs.lemmas.List.{length-take}
 use Rattle.line.specs.Alike.{alike_options}
 use Rattle.line.specs.Line.{Listed, runs_needed}

@@ -10,7 +10,7 @@ use Rattle.rules.specs.declared.scope.Scope.{Scope}
 use Rattle.rules.specs.Actions.{alike_actions}
 use Rattle.rules.specs.Ends.{scope_has}
 use Rattle.rules.specs.Decisions.{decision}
-use Rattle.sheets.specs.Strips.{Row, blank_row, pair_needs, PairSheet, pairs_of, pair_number, strip, all_below, fits_all, Right}
+use Rattle.sheets.specs.Strips.{Row, blank_row, pair_needs, PairSheet, pairs_of, strip, all_below, fits_all, Right}
 use Rattle.sheets.proofs.Numbered.{by_networks}
 
 pub all_below_each : (test : ℕ → Bool) (P : ℕ → Type 0) → ((k : ℕ) → Decides (test k) (P k)) → (n : ℕ) → Decides (all_below test n) ((k : ℕ) → k < n → P k)

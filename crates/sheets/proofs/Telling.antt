@@ -1,6 +1,6 @@
 -- What the sheet of a pair tells.
 use Rattle.std.proofs.Common.{◌≡◌, ℕ, ◌^◌, ◌<◌, ◌≤◌, List, length, take, refl, subst, lit<}
-use Rattle.line.specs.Line.{Line, Listed, outline}
+use Rattle.line.specs.Line.{Line, outline}
 use Rattle.line.specs.Search.{LineOf}
 use Rattle.line.proofs.Lines.{line_tells, line_unique}
 use Rattle.line.proofs.Compared.{listed_some}

@@ -1,4 +1,6 @@
 // The sheets of all pairs of networks in one table: each pair has a strip of rows for its line of decisions.
+#![tactic(auto)]
+
 mod compare;
 mod drawing;
 mod pairs;

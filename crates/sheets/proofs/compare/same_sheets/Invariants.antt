@@ -8,6 +8,6 @@ use Rattle.sheets.proofs.compare.same_sheets.Given as goal
 
 abbrev pub invariant-loop-pair : goal.invariant-loop-pair
 invariant-loop-pair l =
-    (a b : List Rule) → Right a l.networks l.depth l.rows → Right b l.networks l.other-depth l.others → (p : ℕ) → p < l.pair
+    (a b : List Rule) → Right a l.networks l.depth l.rows → Right b l.networks l.other_depth l.others → (p : ℕ) → p < l.pair
     → outline place_of (runs_at a l.networks l.depth l.rows (p / (l.networks + 1)) (p % (l.networks + 1)))
-    ≡ outline place_of (runs_at b l.networks l.other-depth l.others (p / (l.networks + 1)) (p % (l.networks + 1)))
+    ≡ outline place_of (runs_at b l.networks l.other_depth l.others (p / (l.networks + 1)) (p % (l.networks + 1)))

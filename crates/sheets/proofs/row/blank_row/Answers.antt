@@ -1,4 +1,4 @@
-use Rattle.std.proofs.Common.{◌≡◌, None}
+use Rattle.std.proofs.Common.{None}
 use Rattle.sheets.specs.Strips.{first_service}
 use Rattle.sheets.proofs.Same.{service_same}
 use Rattle.sheets.proofs.row.blank_row.Goals as goal

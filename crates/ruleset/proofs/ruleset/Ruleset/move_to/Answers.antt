@@ -10,8 +10,8 @@ use Rattle.table.proofs.Holds.{held_length, moved_is}
 use Rattle.ruleset.proofs.Rights.{sheets_right}
 use Rattle.ruleset.proofs.ruleset.Ruleset.move_to.Goals as goal
 
-pub returns-in-err-i : goal.returns-in-err-i
-returns-in-err-i c = record { answers = search rules; becomes = search rules; sheets = sheets_right _; refused = search rules; lent = search rules }
+pub returns-in_err-i : goal.returns-in_err-i
+returns-in_err-i c = record { answers = search rules; becomes = search rules; sheets = sheets_right _; refused = search rules; lent = search rules }
 
 pub returns-then-position-len : goal.returns-then-position-len
 returns-then-position-len c = let len = held_length c.args.self.now.rules in record { answers = search rules; becomes = search rules; sheets = sheets_right _; refused = search rules; lent = search rules }
@@ -20,16 +20,16 @@ pub settle-requires : goal.settle-requires
 settle-requires c =
     let t = held c.args.self.now.rules in
     let r = c.at-rule.result in
-    let i = c.in-ok-i.i in
+    let i = c.in_ok-i.i in
     let to = c.args.position in
     let len = held_length c.args.self.now.rules in
-    let within = c.in-ok-i.ensures.within in
+    let within = c.in_ok-i.ensures.within in
     let read = c.at-rule.ensures r in
     let is : insert (remove t i) to r ≡ moved t i to = ap (λ (q : Rule). insert (remove t i) to q) read ∙ moved_is t i to r (omega arith) in
     record {
       ready = search rules;
-      elsewhere = subst (λ (s : Scope). AlikeElsewhere s t (held c.move-to.new.self)) (sym c.scope.ensures)
-          (subst (λ (l : List Rule). AlikeElsewhere (scope_of r) t l) (is ∙ sym c.move-to.ensures)
+      elsewhere = subst (λ (s : Scope). AlikeElsewhere s t (held c.move_to.new.self)) (sym c.scope.ensures)
+          (subst (λ (l : List Rule). AlikeElsewhere (scope_of r) t l) (is ∙ sym c.move_to.ensures)
           (elsewhere_twice (scope_of r) t (remove t i) (insert (remove t i) to r) (removed_elsewhere t i r (omega arith) read) (inserted_elsewhere (remove t i) to r)));
     }
 

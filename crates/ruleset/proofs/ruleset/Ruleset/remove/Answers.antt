@@ -9,19 +9,19 @@ use Rattle.table.proofs.Holds.{held_length}
 use Rattle.ruleset.proofs.Rights.{sheets_right}
 use Rattle.ruleset.proofs.ruleset.Ruleset.remove.Goals as goal
 
-pub returns-in-err-i : goal.returns-in-err-i
-returns-in-err-i c = record { answers = search rules; becomes = search rules; sheets = sheets_right _; refused = search rules; lent = search rules }
+pub returns-in_err-i : goal.returns-in_err-i
+returns-in_err-i c = record { answers = search rules; becomes = search rules; sheets = sheets_right _; refused = search rules; lent = search rules }
 
 pub settle-requires : goal.settle-requires
 settle-requires c =
     let t = held c.args.self.now.rules in
     let r = c.at-rule.result in
     let len = held_length c.args.self.now.rules in
-    let within = c.in-ok-i.ensures.within in
+    let within = c.in_ok-i.ensures.within in
     record {
       ready = search rules;
       elsewhere = subst (λ (s : Scope). AlikeElsewhere s t (held c.remove.new.self)) (sym c.scope.ensures)
-          (subst (λ (l : List Rule). AlikeElsewhere (scope_of r) t l) (sym c.remove.ensures.held) (removed_elsewhere t c.in-ok-i.i r (omega arith) (c.at-rule.ensures r)));
+          (subst (λ (l : List Rule). AlikeElsewhere (scope_of r) t l) (sym c.remove.ensures.held) (removed_elsewhere t c.in_ok-i.i r (omega arith) (c.at-rule.ensures r)));
     }
 
 pub returns : goal.returns

@@ -7,22 +7,22 @@ use Rattle.sheets.proofs.Carried.{carried_drawn, carried_fits}
 use Rattle.ruleset.proofs.Rights.{right_of, sheets_right}
 use Rattle.ruleset.proofs.ruleset.Ruleset.settle.Goals as goal
 
-pub sheets-fit-requires : goal.sheets-fit-requires
-sheets-fit-requires c =
+pub sheets_fit-requires : goal.sheets_fit-requires
+sheets_fit-requires c =
     let s = c.args.self.now in
     subst (λ (l : List Rule). FitElsewhere c.args.scope.now l s.networks s.depth) (sym c.rules.ensures)
     (carried_fits c.args.scope.now (held s.rules) (held c.args.next) c.requires.elsewhere s.networks s.depth s.rows.now (right_of s c.requires.ready))
 
-pub returns-then-not-sheets-fit : goal.returns-then-not-sheets-fit
-returns-then-not-sheets-fit c = record { answers = search rules; becomes = search rules; sheets = sheets_right _; refused = search rules; lent = search rules }
+pub returns-then-not-sheets_fit : goal.returns-then-not-sheets_fit
+returns-then-not-sheets_fit c = record { answers = search rules; becomes = search rules; sheets = sheets_right _; refused = search rules; lent = search rules }
 
-pub draw-sheets-requires : goal.draw-sheets-requires
-draw-sheets-requires c =
+pub draw_sheets-requires : goal.draw_sheets-requires
+draw_sheets-requires c =
     let s = c.args.self.now in
     let right = right_of s c.requires.ready in
     let taken = ap (λ (r : Bor (List Row)). r.now) c.take-rows.ensures.value in
     record {
-      fits = ap (λ (l : List Rule). fits_all l s.networks s.depth) (c.rules-2.ensures ∙ sym c.rules.ensures) ∙ sym c.sheets-fit.ensures ∙ c.if-not-sheets-fit.false;
+      fits = ap (λ (l : List Rule). fits_all l s.networks s.depth) (c.rules-2.ensures ∙ sym c.rules.ensures) ∙ sym c.sheets_fit.ensures ∙ c.if-not-sheets_fit.false;
       long = ap length taken ∙ right.long;
       drawn =
           subst (λ (l : List Rule). DrawnElsewhere c.args.scope.now l s.networks s.depth c.take-rows.result.now) (sym c.rules-2.ensures)
@@ -30,10 +30,10 @@ draw-sheets-requires c =
           (carried_drawn c.args.scope.now (held s.rules) (held c.args.next) c.requires.elsewhere s.networks s.depth s.rows.now right));
     }
 
-pub invariant-of-self : goal.invariant-of-self
-invariant-of-self c =
+pub invariant_of-self : goal.invariant_of-self
+invariant_of-self c =
     let s = c.args.self.now in
-    (λ _. ∣ subst (λ (l : List Rule). Right l s.networks s.depth c.draw-sheets.new.rows) c.rules-2.ensures c.draw-sheets.ensures ∣₁, tt)
+    (λ _. ∣ subst (λ (l : List Rule). Right l s.networks s.depth c.draw_sheets.new.rows) c.rules-2.ensures c.draw_sheets.ensures ∣₁, tt)
 
 pub returns : goal.returns
 returns c = record { answers = search rules; becomes = search rules; sheets = sheets_right _; refused = search rules; lent = search rules }

@@ -9,17 +9,17 @@ use Rattle.table.proofs.Holds.{held_length, switched_is}
 use Rattle.ruleset.proofs.Rights.{sheets_right}
 use Rattle.ruleset.proofs.ruleset.Ruleset.switch.Goals as goal
 
-pub returns-in-err-i : goal.returns-in-err-i
-returns-in-err-i c = record { answers = search rules; becomes = search rules; sheets = sheets_right _; refused = search rules; lent = search rules }
+pub returns-in_err-i : goal.returns-in_err-i
+returns-in_err-i c = record { answers = search rules; becomes = search rules; sheets = sheets_right _; refused = search rules; lent = search rules }
 
 pub settle-requires : goal.settle-requires
 settle-requires c =
     let t = held c.args.self.now.rules in
     let r = c.at-rule.result in
-    let i = c.in-ok-i.i in
+    let i = c.in_ok-i.i in
     let on = c.args.on in
     let len = held_length c.args.self.now.rules in
-    let within = c.in-ok-i.ensures.within in
+    let within = c.in_ok-i.ensures.within in
     let read = c.at-rule.ensures r in
     let is : set t i (switched on r) ≡ switched_at t i on = ap (λ (q : Rule). set t i (switched on q)) read ∙ switched_is t i on r (omega arith) in
     record {
