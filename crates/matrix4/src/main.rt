@@ -1,4 +1,6 @@
 // The matrix program for IPv4 addresses.
+#![tactic(auto)]
+
 use address::Ipv4;
 use matrix::{Failure, print_plan};
 

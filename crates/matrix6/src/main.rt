@@ -1,4 +1,6 @@
 // The matrix program for IPv6 addresses.
+#![tactic(auto)]
+
 use address::Ipv6;
 use matrix::{Failure, print_plan};
 
