@@ -1,4 +1,6 @@
 // Trials of plans and their texts: nothing but tests.
+#![tactic(auto)]
+
 #[cfg(test)]
 mod fields;
 #[cfg(test)]

@@ -79,8 +79,8 @@ fn a_number_from_one_to_the_last_has_a_name(rt: HostRuntime) -> Result<(), Fail>
     let mut rows = [unwritten(); 8];
     let mut plan = Plan::open(&mut rows);
     assert_eq!(rt; loaded(&mut plan, NARROW), FINE);
-    assert!(rt; plan.name_of(1).ok_or("no first name")? == b"a");
-    assert!(rt; plan.name_of(2).ok_or("no second name")? == b"b");
+    assert!(rt; plan.name_of(1).ok_or("no first name")? == b"a".as_slice());
+    assert!(rt; plan.name_of(2).ok_or("no second name")? == b"b".as_slice());
     for number in [0, 3, 24, 25, u8::MAX] {
         assert!(rt; plan.name_of(number).is_none());
     }

@@ -51,7 +51,7 @@ fn a_text_that_does_not_fit_is_not_begun(rt: HostRuntime) -> Result<(), Fail> {
     assert_eq!(rt; cause(write_plan(&plan, &mut none)), 23);
     let mut long = [7; 49];
     assert_eq!(rt; write_plan(&plan, &mut long)?, 46);
-    assert!(rt; &long[0..46] == text);
+    assert!(rt; &long[0..46] == text.as_slice());
     assert!(rt; long[46] == 7 && long[47] == 7 && long[48] == 7);
     Ok(())
 }
