@@ -1,5 +1,5 @@
 -- Two rulesets list the same runs exactly where they decide every packet alike.
-use Rattle.std.proofs.Common.{◌≡◌, ℕ, zero, suc, ◌+◌, ◌*◌, ◌/◌, ◌%◌, ◌^◌, ◌<◌, ◌≤◌, Bool, true, false, List, [], length, Decides, Option, sym, refl, ap, ◌∙◌, subst, inl, inr, arith, lit<}
+use Rattle.std.proofs.Common.{◌≡◌, ℕ, zero, suc, ◌/◌, ◌%◌, ◌^◌, ◌<◌, ◌≤◌, Bool, false, List, [], length, Decides, sym, refl, ap, ◌∙◌, subst, inl, inr, arith, lit<}
 use Rattle.std.proofs.lemmas.Nat.{div-add-mod', div_below, mod_below}
 use Rattle.std.proofs.lemmas.Bool.{cases_Bool, both_ways}
 use Rattle.std.proofs.lemmas.Bool.Decides.{Decides-like}
@@ -20,7 +20,7 @@ use Rattle.sheets.specs.Listed.{runs_at, ListsAlike}
 use Rattle.sheets.proofs.Telling.{runs_agree, agree_runs}
 use Rattle.ruleset.specs.declared.ruleset.Ruleset.{Ruleset}
 use Rattle.ruleset.specs.Compares.{Comparable, ListAlike}
-use Rattle.ruleset.specs.Packets.{flow_of, Sent, DecideAlike}
+use Rattle.ruleset.specs.Packets.{flow_of, DecideAlike}
 use Rattle.ruleset.specs.Views.{rules_of, runs_of}
 use Rattle.ruleset.proofs.Rights.{right_of}
 

@@ -1,5 +1,5 @@
 -- The sheets of a ruleset that is not shut are right, and what that tells of its runs and decisions.
-use Rattle.std.proofs.Common.{◌≡◌, true, List}
+use Rattle.std.proofs.Common.{◌≡◌, true}
 use Rattle.sheets.specs.Strips.{Right}
 use Rattle.sheets.proofs.Sets.{right_out}
 use Rattle.ruleset.specs.declared.ruleset.Ruleset.{Ruleset}

@@ -1,5 +1,5 @@
 -- What it says that sizes fit, and that a scope has all pairs.
-use Rattle.std.proofs.Common.{◌≡◌, ℕ, ◌*◌, ◌≤◌, true, false, ◌&&◌, eqb, leb, ap, ◌∙◌}
+use Rattle.std.proofs.Common.{◌≡◌, ℕ, ◌*◌, ◌≤◌, true, false, ◌&&◌, leb, ap, ◌∙◌}
 use Rattle.std.proofs.lemmas.Bool.{and_parts, leb-true, eqb-true, both_ways}
 use Rattle.rules.specs.declared.end.End.{End}
 use Rattle.rules.specs.declared.end.End.TheVariants.{Any}

@@ -1,10 +1,8 @@
 -- What a ruleset's sheets tell: runs, labels, and the answer to a packet.
-use Rattle.std.proofs.Common.{◌≡◌, ℕ, ◌*◌, ◌^◌, ◌<◌, ◌≤◌, min, true, cond, eqb, List, length, take, drop, Ok, Err, Option, Result, sym, refl, ap, ◌∙◌, subst, arith}
+use Rattle.std.proofs.Common.{◌≡◌, ℕ, ◌^◌, ◌<◌, ◌≤◌, true, eqb, List, length, Ok, Option, sym, ap, ◌∙◌, arith}
 use Rattle.std.proofs.lemmas.List.{length-take-le}
-use Rattle.std.proofs.lemmas.Bool.{cond-true, cond-false, eq-eqb}
+use Rattle.std.proofs.lemmas.Bool.{cond-true, eq-eqb}
 use Rattle.line.specs.Line.{Line}
-use Rattle.refusal.specs.declared.refusal.Refusal.{Refusal}
-use Rattle.refusal.specs.declared.refusal.Refusal.TheVariants.{Shut, WrongNetwork}
 use Rattle.service.specs.Spans.{place_of}
 use Rattle.packet.specs.Heads.{Head}
 use Rattle.plan.specs.Declarations.{Declaration, names_of, network_of}
@@ -18,7 +16,7 @@ use Rattle.sheets.proofs.Telling.{sheet_line, sheet_some, sheet_fits}
 use Rattle.ruleset.specs.declared.ruleset.Ruleset.{Ruleset}
 use Rattle.ruleset.specs.Packets.{flow_of, by, decide_answer}
 use Rattle.ruleset.specs.Registers.{Register}
-use Rattle.ruleset.specs.Views.{rules_of, runs_of, register_of}
+use Rattle.ruleset.specs.Views.{rules_of, runs_of}
 use Rattle.ruleset.proofs.Rights.{right_of}
 
 module _ (r : Ruleset) (ready : r.ready ≡ true) (from to : ℕ) (a : from ≤ r.networks) (b : to ≤ r.networks) where

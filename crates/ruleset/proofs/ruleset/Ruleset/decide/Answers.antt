@@ -1,8 +1,8 @@
-use Rattle.std.proofs.Common.{◌≡◌, ℕ, ◌+◌, ◌*◌, ◌<◌, ◌≤◌, length, sym, refl, ap, ◌∙◌, arith}
+use Rattle.std.proofs.Common.{◌≡◌, ℕ, sym, ap, ◌∙◌, arith}
 use Rattle.std.proofs.lemmas.Bool.{eq-eqb, both_ways}
 use Rattle.service.specs.Spans.{place_of}
 use Rattle.packet.specs.Heads.{head_of}
-use Rattle.plan.specs.Declarations.{names_of, network_of}
+use Rattle.plan.specs.Declarations.{network_of}
 use Rattle.rules.specs.Decisions.{decision}
 use Rattle.ruleset.specs.Packets.{shut, by}
 use Rattle.ruleset.specs.Views.{register_of, rules_of}

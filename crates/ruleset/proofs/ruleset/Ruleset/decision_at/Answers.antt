@@ -1,4 +1,4 @@
-use Rattle.std.proofs.Common.{◌≡◌, ◌^◌, ◌<◌, List, length, sym, subst, arith}
+use Rattle.std.proofs.Common.{◌^◌, ◌<◌, List, length, sym, subst, arith}
 use Rattle.line.specs.Line.{Line}
 use Rattle.service.specs.Spans.{place_of}
 use Rattle.rules.specs.Decisions.{decision}

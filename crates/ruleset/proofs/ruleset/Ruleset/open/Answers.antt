@@ -1,4 +1,4 @@
-use Rattle.std.proofs.Common.{◌≡◌, List, [], sym, ap, ◌∙◌, subst, arith, rules}
+use Rattle.std.proofs.Common.{List, sym, ap, ◌∙◌, subst, rules}
 use Rattle.rules.specs.declared.rule.Rule.{Rule}
 use Rattle.sheets.specs.Strips.{Right, fits_all}
 use Rattle.sheets.proofs.Empty.{empty_fits}
@@ -17,7 +17,7 @@ draw_sheets-requires c =
 
 pub invariant_of-result-2 : goal.invariant_of-result-2
 invariant_of-result-2 c =
-    (λ _. ∣ subst (λ (l : List Rule). Right l c.args.networks c.args.depth c.draw_sheets.new.rows) c.rules.ensures c.draw_sheets.ensures ∣₁, tt)
+    record { sound = λ _. ∣ subst (λ (l : List Rule). Right l c.args.networks c.args.depth c.draw_sheets.new.rows) c.rules.ensures c.draw_sheets.ensures ∣₁ }
 
 pub returns : goal.returns
 returns c = record { opens = search rules; sheets = sheets_right _; shut = search rules; lent = search rules }

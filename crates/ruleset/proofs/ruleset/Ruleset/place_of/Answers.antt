@@ -1,4 +1,4 @@
-use Rattle.std.proofs.Common.{◌≡◌, sym, ◌∙◌, arith, rules}
+use Rattle.std.proofs.Common.{sym, ◌∙◌, arith, rules}
 use Rattle.table.specs.Held.{held}
 use Rattle.table.proofs.Holds.{position_within, held_length}
 use Rattle.ruleset.proofs.ruleset.Ruleset.place_of.Goals as goal

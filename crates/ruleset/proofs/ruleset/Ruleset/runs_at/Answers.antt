@@ -1,4 +1,4 @@
-use Rattle.std.proofs.Common.{◌≡◌, ◌*◌, ◌≤◌, sym, ap, ◌∙◌, subst, arith}
+use Rattle.std.proofs.Common.{arith}
 use Rattle.sheets.proofs.Telling.{runs_found}
 use Rattle.ruleset.specs.Views.{rules_of}
 use Rattle.ruleset.proofs.Rights.{right_of}

@@ -1,7 +1,7 @@
-use Rattle.std.proofs.Common.{◌≡◌, ◌*◌, ◌≤◌, List, length, sym, ap, ◌∙◌, subst, arith, Bor, rules}
+use Rattle.std.proofs.Common.{◌≡◌, List, length, sym, ap, ◌∙◌, subst, rules}
 use Rattle.rules.specs.declared.rule.Rule.{Rule}
 use Rattle.table.specs.Held.{held}
-use Rattle.sheets.specs.Strips.{Row, Right, fits_all, pairs_of}
+use Rattle.sheets.specs.Strips.{Row, Right, fits_all}
 use Rattle.sheets.specs.Scopes.{DrawnElsewhere, FitElsewhere}
 use Rattle.sheets.proofs.Carried.{carried_drawn, carried_fits}
 use Rattle.ruleset.proofs.Rights.{right_of, sheets_right}
@@ -20,7 +20,8 @@ pub draw_sheets-requires : goal.draw_sheets-requires
 draw_sheets-requires c =
     let s = c.args.self.now in
     let right = right_of s c.requires.ready in
-    let taken = ap (λ (r : Bor (List Row)). r.now) c.take-rows.ensures.value in
+    let value = c.take-rows.ensures.value in
+    let taken : c.take-rows.result.now ≡ s.rows.now = cc in
     record {
       fits = ap (λ (l : List Rule). fits_all l s.networks s.depth) (c.rules-2.ensures ∙ sym c.rules.ensures) ∙ sym c.sheets_fit.ensures ∙ c.if-not-sheets_fit.false;
       long = ap length taken ∙ right.long;
@@ -33,7 +34,7 @@ draw_sheets-requires c =
 pub invariant_of-self : goal.invariant_of-self
 invariant_of-self c =
     let s = c.args.self.now in
-    (λ _. ∣ subst (λ (l : List Rule). Right l s.networks s.depth c.draw_sheets.new.rows) c.rules-2.ensures c.draw_sheets.ensures ∣₁, tt)
+    record { sound = λ _. ∣ subst (λ (l : List Rule). Right l s.networks s.depth c.draw_sheets.new.rows) c.rules-2.ensures c.draw_sheets.ensures ∣₁ }
 
 pub returns : goal.returns
 returns c = record { answers = search rules; becomes = search rules; sheets = sheets_right _; refused = search rules; lent = search rules }
