@@ -1,6 +1,6 @@
 // What is read of a row's bytes, held to what the row tells.
 ghost use Rattle.std.specs.Prelude.{◌≡◌, ℕ, ◌<◌, ◌≤◌, List, length, take, Decides, MatchOption, ◌≢◌};
-ghost use Rattle.std.specs.List.{AllByRecursion as All};
+ghost use Rattle.std.specs.List.{AllByRecursion};
 ghost use Rattle.packets.specs.Rows.{hexed, row_text};
 ghost use Rattle.packets.specs.Answers.{Answered, Judges};
 ghost use Rattle.packets.specs.declared.row.Kind.{Kind as AnyKind};
@@ -35,7 +35,7 @@ fn judge<A: Address>(bytes: &[u8], told: &[u8], out: &mut [u8]) -> Judged
 pub fn judge_row(row: &[u8], out: &mut [u8]) -> Option<Judged>
     requires { 89 ≤ length out.old }
     ensures end { MatchOption result (0 ≤ 0) (λ judged. judged.end ≤ length out.new) }
-    ensures judges { MatchOption result ((kind : AnyKind) (bytes told : List ℕ) → All (λ b. b < 256) bytes → length bytes ≤ 256 → row_text kind (hexed bytes) told ≢ row.now) (λ judged. Judges row.now (take judged.end out.new) judged.agrees) }
+    ensures judges { MatchOption result ((kind : AnyKind) (bytes told : List ℕ) → AllByRecursion (λ b. b < 256) bytes → length bytes ≤ 256 → row_text kind (hexed bytes) told ≢ row.now) (λ judged. Judges row.now (take judged.end out.new) judged.agrees) }
 {
     let Some(parts) = part_row(row) else {
         return None;

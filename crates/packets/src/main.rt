@@ -1,4 +1,6 @@
 // Reads packets from a file, and holds what is read of each to what the file tells of it.
+#![tactic(auto)]
+
 mod answer;
 mod hex;
 mod judging;

@@ -25,10 +25,10 @@ pub struct PacketRow<'t> {
 fn read_kind(text: &[u8]) -> Option<Kind>
     ensures { MatchOption result ((kind : AnyKind) → mark kind ∷ [] ≢ text.now) (λ kind. mark kind ∷ [] ≡ text.now) }
 {
-    if text == b"4" {
+    if text == b"4".as_slice() {
         return Some(Kind::Four);
     }
-    if text == b"6" {
+    if text == b"6".as_slice() {
         return Some(Kind::Six);
     }
     None

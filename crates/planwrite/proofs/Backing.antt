@@ -1,6 +1,6 @@
 -- A written text reads back: its rows, cut at their ends, say the declarations one after another.
 use Rattle.std.proofs.Common.{◌≡◌, ℕ, ◌+◌, ◌<◌, ◌≤◌, Bool, true, false, cond, not, ◌&&◌, eqb, leb, List, [], ◌∷◌, ◌++◌, length, None, codes, sym, refl, ap, ◌∙◌, subst, arith}
-use Rattle.std.specs.List.{AllByRecursion as All}
+use Rattle.std.specs.List.{AllByRecursion}
 use Rattle.std.specs.Str.{bytes_eq}
 use Rattle.std.proofs.lemmas.List.{append_assoc}
 use Rattle.std.proofs.ByRecursion.{All-append}
@@ -101,7 +101,7 @@ module _ {A : Type 0} (text : A → List ℕ) (place : A → ℕ) (size most : �
         by false later a = later front line a
 
   -- the rows of the networks from the number n on
-  nets_load : (runs : List (Run A ℕ)) (n : ℕ) (names : List (List ℕ)) → All (λ (m : List ℕ). well_formed m ≡ true) names
+  nets_load : (runs : List (Run A ℕ)) (n : ℕ) (names : List (List ℕ)) → AllByRecursion (λ (m : List ℕ). well_formed m ≡ true) names
       → (front : List Declaration) (line : ℕ) → Accepts size most front (nets_said place n names runs)
       → Loads text place size most front line (rows (nets_text text n names runs)) (nets_said place n names runs) None
   nets_load runs n [] formed front line accepts = ends front line

@@ -1,6 +1,6 @@
 -- What the text of a plan says is accepted, and says the plan.
 use Rattle.std.proofs.Common.{◌≡◌, ℕ, ◌+◌, ◌<◌, ◌≤◌, Bool, true, false, cond, eqb, List, [], ◌∷◌, ◌++◌, length, sym, refl, ap, ◌∙◌, subst, inl, inr, arith}
-use Rattle.std.specs.List.{AllByRecursion as All}
+use Rattle.std.specs.List.{AllByRecursion}
 use Rattle.std.proofs.lemmas.List.{append-nil, append_assoc, length-append}
 use Rattle.std.proofs.lemmas.Bool.{eqb-true, eqb-false}
 use Rattle.line.specs.declared.run.Run.{Run}
@@ -68,7 +68,7 @@ module _ {A : Type 0} (place : A → ℕ) (size rows : ℕ) (ds : List Declarati
   -- the networks from the number n on
   nets_tell : (runs : List (Run A ℕ)) → Joined place size 0 runs → Painted place (network_of ds) runs → length runs ≤ rows
       → (ns more : List (List ℕ)) (n : ℕ) (front : List Declaration) → n ≡ length ns + 1 → ns ++ more ≡ names_of ds → Apart ns more
-      → All (λ (m : List ℕ). well_formed m ≡ true) more → names_of front ≡ ns → ((x : ℕ) → x < size → network_of front x ≡ shown n 0 (network_of ds x) x)
+      → AllByRecursion (λ (m : List ℕ). well_formed m ≡ true) more → names_of front ≡ ns → ((x : ℕ) → x < size → network_of front x ≡ shown n 0 (network_of ds x) x)
       → Tells size rows ds front (nets_said place n more runs)
   nets_tell runs j q most ns [] n front counts all apart formed names labels =
       let whole : ns ≡ names_of ds = sym (append-nil ns) ∙ all in

@@ -1,5 +1,5 @@
 -- A row has one first comma, and what follows it has one.
-use Rattle.std.proofs.Common.{◌≡◌, ℕ, List, [], ◌∷◌, ◌++◌, sym, ap, ◌∙◌, arith}
+use Rattle.std.proofs.Common.{ℕ, List, [], ◌∷◌, ◌++◌, sym, ap, ◌∙◌, arith}
 use Rattle.text.specs.Parts.{Lacks}
 use Rattle.text.proofs.Cutting.{same_cut, no_cut}
 use Rattle.packets.specs.Rows.{mark}
