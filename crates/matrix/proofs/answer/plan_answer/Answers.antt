@@ -1,4 +1,4 @@
-use Rattle.std.proofs.Common.{◌≡◌, length, Some, None, refl}
+use Rattle.std.proofs.Common.{length, Some, None, refl}
 use Rattle.planwrite.specs.Writes.{runs_of}
 use Rattle.matrix.proofs.Ending.{ended}
 use Rattle.matrix.proofs.answer.plan_answer.Goals as goal

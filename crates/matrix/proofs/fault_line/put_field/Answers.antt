@@ -1,4 +1,4 @@
-use Rattle.std.proofs.Common.{◌≡◌, [], ◌∷◌, length, decimal, arith}
+use Rattle.std.proofs.Common.{[], ◌∷◌, decimal, arith}
 use Rattle.text.proofs.Putting.{put_then}
 use Rattle.matrix.proofs.Putting.{digits_few}
 use Rattle.matrix.proofs.fault_line.put_field.Goals as goal

@@ -1,6 +1,5 @@
-use Rattle.std.proofs.Common.{◌≡◌, ℕ, List, length, sym, refl, ap, ◌∙◌, arith}
+use Rattle.std.proofs.Common.{ℕ, List, length, refl, ap, ◌∙◌, arith}
 use Rattle.text.specs.Buffers.{put}
-use Rattle.matrix.specs.Lines.{fault_line}
 use Rattle.matrix.proofs.Putting.{front_of}
 use Rattle.matrix.proofs.fault_line.write_fault.Goals as goal
 

@@ -1,4 +1,4 @@
-use Rattle.std.proofs.Common.{◌≡◌, ℕ, ◌+◌, ◌≤◌, List, [], ◌∷◌, ◌++◌, length, codes, decimal, sym, ap, ◌∙◌, arith}
+use Rattle.std.proofs.Common.{ℕ, List, [], ◌∷◌, length, codes, decimal, ap, ◌∙◌, arith}
 use Rattle.refusal.specs.Numbers.{number}
 use Rattle.text.specs.Buffers.{put}
 use Rattle.matrix.proofs.Putting.{word_short, seven, seven_length, line_is}
