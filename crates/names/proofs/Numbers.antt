@@ -1,13 +1,13 @@
 -- The number of a name.
-use Rattle.std.proofs.Common.{◌≡◌, ℕ, zero, suc, ◌+◌, ◌<◌, ◌≤◌, Bool, true, false, List, [], ◌∷◌, map, length, get_or, take, drop, Decides, sym, refl, ap, ◌∙◌, arith}
+use Rattle.std.proofs.Common.{◌≡◌, ℕ, zero, suc, ◌+◌, ◌<◌, ◌≤◌, Bool, true, false, not, codes, List, [], ◌∷◌, map, length, get_or, take, drop, Decides, sym, refl, ap, ◌∙◌, arith}
 use Rattle.std.specs.Str.{bytes_eq}
 use Rattle.std.proofs.lemmas.Slice.Eq.{bytes_eq-Decides}
-use Rattle.std.proofs.lemmas.Bool.{cond-true, cond-false}
+use Rattle.std.proofs.lemmas.Bool.{cond-true, cond-false, le-leb}
 use Rattle.std.proofs.lemmas.List.{at_drop_more, at_drop_all, length-map, length-take-le, length-take, get_or-map, get_or-take}
 use Rattle.names.specs.declared.name.Name.{Name}
 use Rattle.names.specs.declared.name.Names.{Names}
 use Rattle.names.specs.Texts.{text_of, texts}
-use Rattle.names.specs.Names.{number_in}
+use Rattle.names.specs.Names.{number_in, letters, well_formed}
 
 pub same_false : (xs ys : List ℕ) → (xs ≡ ys → ⊥) → bytes_eq xs ys ≡ false
 same_false xs ys ne = decide (bytes_eq xs ys) (bytes_eq-Decides xs ys)
@@ -35,6 +35,16 @@ module _ (ns : Names) (fits : ns.count ≤ length ns.list) where
   texts_at i x lt is =
       let len = length-take-le ns.count ns.list fits in
       get_or-map text_of (take ns.count ns.list) i x [] (omega arith) ∙ ap text_of (get_or-take ns.count ns.list i x lt ∙ sym is)
+
+pub well_any : (text : List ℕ) → text ≡ codes "any" → well_formed text ≡ false
+well_any text e = ap well_formed e
+
+pub well_rest : (text : List ℕ) → 1 ≤ length text → length text ≤ 12 → letters text ≡ true → bytes_eq text (codes "any") ≡ false
+    → well_formed text ≡ not (bytes_eq text (codes "elsewhere"))
+well_rest text a b c d =
+    let p = le-leb 1 (length text) a in
+    let q = le-leb (length text) 12 b in
+    simp (p, q, c, d)
 
 short_in : (xs : List Name) (i : ℕ) → length (get_or (map text_of xs) i []) ≤ 12
 short_in [] i = omega arith

@@ -4,26 +4,34 @@ use address::Ipv4;
 use line::Run;
 use plan::{Plan, check_rows};
 use planwrite::write_plan;
-use std::process::Abort;
 use std::test::Fail;
 
+// Fails where what is said of a shut plan is not so.
+fn holds(so: bool) -> Result<(), Fail> {
+    if so {
+        Ok(())
+    } else {
+        Err(Fail::new("a call of a shut plan is not refused"))
+    }
+}
+
 // Checks that every call of a plan over these rows is refused.
-fn check_shut(rt: &impl Abort, rows: &mut [Run<Ipv4, u8>]) {
+fn check_shut(rows: &mut [Run<Ipv4, u8>]) -> Result<(), Fail> {
     let mut plan = Plan::open(rows);
-    assert!(rt; plan.is_shut());
-    assert_eq!(rt; plan.networks(), 0);
-    assert_eq!(rt; plan.runs().len(), 0);
-    assert_eq!(rt; declared(&mut plan, b"a", 1, 2), 2);
-    assert_eq!(rt; declared(&mut plan, b"A", 2, 1), 2);
-    assert_eq!(rt; loaded(&mut plan, b"net,a,0.0.0.1,0.0.0.2"), (3, 2, 0, 0));
-    assert_eq!(rt; loaded(&mut plan, b""), (3, 2, 0, 0));
-    assert_eq!(rt; loaded(&mut plan, &[b'#'; 16385]), (3, 2, 0, 0));
-    assert_eq!(rt; cause(plan.network_of(&Ipv4::new(1))), 2);
-    assert!(rt; plan.number_of(b"a").is_none());
-    assert!(rt; plan.name_of(1).is_none());
+    holds(plan.is_shut())?;
+    holds(plan.networks() == 0)?;
+    holds(plan.runs().len() == 0)?;
+    holds(declared(&mut plan, b"a", 1, 2) == 2)?;
+    holds(declared(&mut plan, b"A", 2, 1) == 2)?;
+    holds(loaded(&mut plan, b"net,a,0.0.0.1,0.0.0.2") == (3, 2, 0, 0))?;
+    holds(loaded(&mut plan, b"") == (3, 2, 0, 0))?;
+    holds(loaded(&mut plan, &[b'#'; 16385]) == (3, 2, 0, 0))?;
+    holds(cause(plan.network_of(&Ipv4::new(1))) == 2)?;
+    holds(plan.number_of(b"a").is_none())?;
+    holds(plan.name_of(1).is_none())?;
     let mut out = [7; 40];
-    assert_eq!(rt; cause(write_plan(&plan, &mut out)), 2);
-    assert!(rt; out == [7; 40]);
+    holds(cause(write_plan(&plan, &mut out)) == 2)?;
+    holds(out == [7; 40])
 }
 
 #[test]
@@ -36,15 +44,15 @@ fn a_plan_has_1_to_4096_rows(rt: HostRuntime) {
 }
 
 #[test]
-fn a_plan_without_rows_is_shut(rt: HostRuntime) {
+fn a_plan_without_rows_is_shut() -> Result<(), Fail> {
     let mut rows: [Run<Ipv4, u8>; 0] = [];
-    check_shut(&rt, &mut rows);
+    check_shut(&mut rows)
 }
 
 #[test]
 fn a_plan_of_4097_rows_is_shut_and_leaves_them(rt: HostRuntime) -> Result<(), Fail> {
     let mut rows = unwritten_rows(rt.alloc(), 4097)?;
-    check_shut(&rt, &mut rows);
+    check_shut(&mut rows)?;
     assert_eq!(rt; rows.len(), 4097);
     for row in &rows {
         assert!(rt; row.low.value() == 7 && row.high.value() == 9 && row.label == 99);
