@@ -1,5 +1,7 @@
 -- The number of each cause, its layer, and which causes have a line and a field.
 use Rattle.std.specs.Prelude.{List, [], ◌∷◌, Bool, true, false, cond, not, ℕ, ◌==◌}
+use Rattle.refusal.specs.declared.layer.Layer.{Layer}
+use Rattle.refusal.specs.declared.layer.Layer.TheVariants.{Field, Row, Whole}
 use Rattle.refusal.specs.declared.refusal.Refusal.{Refusal}
 use Rattle.refusal.specs.declared.refusal.Refusal.TheVariants.{WrongSize, Shut, TooManyRules, IdNotFree, NoSuchRule, PositionTooHigh, WrongNetwork, PortsNotAllowed, SheetTooLong, RangeReversed, RangeTaken, PlanFull, NothingElsewhere, PacketTooShort, WrongHeader, LaterFragment, WrongRow, FieldMalformed, NameNotDeclared, TooManyNames, RulesHeld, TextTooLong, BufferTooShort}
 
@@ -37,6 +39,12 @@ among n (k ∷ ks) = cond (n == k) true (among n ks)
 -- what a cause is about: 1 a field, 2 a row, 3 the plan or the ruleset
 abbrev pub layer : Refusal → ℕ
 layer c = cond (among (number c) (18 ∷ 19 ∷ [])) 1 (cond (among (number c) (8 ∷ 10 ∷ 17 ∷ [])) 2 3)
+
+-- the number of a layer
+abbrev pub layer_number : Layer → ℕ
+layer_number Field = 1
+layer_number Row = 2
+layer_number Whole = 3
 
 -- these causes have no line
 abbrev pub has_line : Refusal → Bool

@@ -1,13 +1,13 @@
 // The fault of a text: what a load returns where it is refused.
 ghost use Rattle.std.specs.Prelude.{◌≡◌};
 ghost use Rattle.refusal.specs.Faults.{fault};
+ghost use Rattle.refusal.specs.Numbers.{layer, layer_number};
 
-use crate::Refusal;
+use crate::{Layer, Refusal};
 
-// A cause with its layer, and the line and the field where a load met it, each counted from 1 and 0 where the cause has none.
+// A cause, and the line and the field where a load met it, each counted from 1 and 0 where the cause has none: the fault line prints this 0, and an `Option` would be turned into it wherever a fault is told.
 #[derive(Clone, Copy, PartialEq, Eq, Debug)]
 pub struct Fault {
-    layer: u8,
     cause: Refusal,
     line: usize,
     field: usize,
@@ -19,17 +19,17 @@ impl Fault {
         ensures { result ≡ fault cause line field }
     {
         Fault {
-            layer: cause.layer(),
             cause,
             line: if cause.has_line() { line } else { 0 },
             field: if cause.has_field() { field } else { 0 },
         }
     }
 
-    pub fn layer(&self) -> u8
-        ensures { result ≡ self.now.layer }
+    // What its cause is about.
+    pub fn layer(&self) -> Layer
+        ensures { layer_number result ≡ layer self.now.cause }
     {
-        self.layer
+        self.cause.layer()
     }
 
     pub fn cause(&self) -> Refusal

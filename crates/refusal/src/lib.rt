@@ -2,7 +2,9 @@
 #![tactic(auto)]
 
 mod fault;
+mod layer;
 mod refusal;
 
 pub use fault::Fault;
+pub use layer::Layer;
 pub use refusal::Refusal;

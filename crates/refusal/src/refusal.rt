@@ -1,6 +1,8 @@
 // The causes of refusal: each has one number, one layer, and a line or none.
 ghost use Rattle.std.specs.Prelude.{◌≡◌};
-ghost use Rattle.refusal.specs.Numbers.{number, layer, has_line, has_field};
+ghost use Rattle.refusal.specs.Numbers.{number, layer, layer_number, has_line, has_field};
+
+use crate::Layer;
 
 // Why a call is refused, in the order of the numbers.
 #[derive(Clone, Copy, PartialEq, Eq, Debug)]
@@ -61,14 +63,14 @@ impl Refusal {
         self as u8
     }
 
-    // What the cause is about: 1 a field, 2 a row, 3 the plan or the ruleset.
-    pub fn layer(self) -> u8
-        ensures { result ≡ layer self }
+    // What the cause is about.
+    pub fn layer(self) -> Layer
+        ensures { layer_number result ≡ layer self }
     {
-        match self.number() {
-            18 | 19 => 1,
-            8 | 10 | 17 => 2,
-            _ => 3,
+        match self {
+            Refusal::FieldMalformed | Refusal::NameNotDeclared => Layer::Field,
+            Refusal::PortsNotAllowed | Refusal::RangeReversed | Refusal::WrongRow => Layer::Row,
+            _ => Layer::Whole,
         }
     }
 
@@ -76,8 +78,9 @@ impl Refusal {
     pub fn has_line(self) -> bool
         ensures { result ≡ has_line self }
     {
-        match self.number() {
-            1 | 2 | 7 | 9 | 21 | 22 => false,
+        match self {
+            Refusal::WrongSize | Refusal::Shut | Refusal::WrongNetwork => false,
+            Refusal::SheetTooLong | Refusal::RulesHeld | Refusal::TextTooLong => false,
             _ => true,
         }
     }
@@ -86,6 +89,6 @@ impl Refusal {
     pub fn has_field(self) -> bool
         ensures { result ≡ has_field self }
     {
-        self.layer() == 1
+        self.layer() == Layer::Field
     }
 }
