@@ -1,35 +1,34 @@
 -- Lists of runs that are the same, and the line that rows begin with.
-use Rattle.std.proofs.Common.{◌≡◌, ℕ, zero, suc, ◌+◌, ◌-◌, ◌<◌, ◌≤◌, List, [], ◌∷◌, length, get_or, take, sym, refl, ap, ◌∙◌, ⊎_elim, arith}
-use Rattle.std.proofs.lemmas.List.{length-map, get_or-map, get_or-take, get_or-drop, get_or-replicate, length-take-le}
+use Rattle.std.proofs.Common.{◌≡◌, Bool, ◌&&◌, ◌==◌, Decides, ℕ, zero, suc, ◌+◌, ◌-◌, ◌<◌, ◌≤◌, List, [], ◌∷◌, length, get_or, take, sym, ap, ◌∙◌, ⊎_elim, arith}
+use Rattle.std.proofs.lemmas.List.{get_or-take, get_or-drop, get_or-replicate, length-take-le}
 use Rattle.std.proofs.lemmas.Bool.{cases_lt}
+use Rattle.std.proofs.lemmas.Bool.Decides.{Decides-at, Decides-like, Decides-and, Decides-eqb}
+use Rattle.std.specs.Cmp.Derive.Mapped.{pointwise-map}
+use lib.Pointwise.{pointwise, pointwise_decides}
 use Rattle.line.specs.declared.run.Run.{Run}
-use Rattle.line.specs.Line.{Joined, Listed, Outline, outline, SameRun}
+use Rattle.line.specs.Line.{Joined, Listed, Outline, outline}
+
+-- two runs as they are compared, by a test of their labels
+abbrev same_outline : {L : Type 0} → (L → L → Bool) → Outline L → Outline L → Bool
+same_outline equals t u = t.0 == u.0 && (t.1 == u.1 && equals t.2 u.2)
+
+module _ {P L : Type 0} (place : P → ℕ) (at : P → P → Bool) (by_place : (a b : P) → at a b ≡ (place a == place b))
+    (equals : L → L → Bool) (tells : (a b : L) → Decides (equals a b) (a ≡ b)) where
+  told : (t u : Outline L) → Decides (same_outline equals t u) (t ≡ u)
+  told t u =
+      Decides-like _ (λ e i. (e.0 i, e.1.0 i, e.1.1 i)) (λ e. (ap (λ (v : Outline L). v.0) e, (ap (λ (v : Outline L). v.1) e, ap (λ (v : Outline L). v.2) e)))
+      (Decides-and _ _ (Decides-eqb t.0 u.0) (Decides-and _ _ (Decides-eqb t.1 u.1) (tells t.2 u.2)))
+
+  -- two lists are one by `==`, where their points go by place and their labels by `equals`, exactly where their outlines are
+  pub same_outlines : (runs others : List (Run P L))
+      → Decides (pointwise (λ r o. at r.low o.low && (at r.high o.high && equals r.label o.label)) runs others) (outline place runs ≡ outline place others)
+  same_outlines runs others =
+      let outlined : Run P L → Outline L = λ r. (place r.low, place r.high, r.label) in
+      let by_outline : pointwise (λ r o. at r.low o.low && (at r.high o.high && equals r.label o.label)) runs others ≡ pointwise (λ r o. same_outline equals (outlined r) (outlined o)) runs others =
+      λ i. pointwise (λ r o. by_place r.low o.low i && (by_place r.high o.high i && equals r.label o.label)) runs others in
+      Decides-at _ _ (by_outline ∙ sym (pointwise-map outlined (same_outline equals) runs others)) (pointwise_decides told (outline place runs) (outline place others))
 
 module _ {P L : Type 0} (place : P → ℕ) where
-  abbrev outlined : Run P L → Outline L
-  outlined r = (place r.low, place r.high, r.label)
-
-  pub same_outlines : (runs others : List (Run P L)) → length runs ≡ length others
-      → ((k : ℕ) → k < length runs → (d : Run P L) → SameRun place (get_or runs k d) (get_or others k d)) → outline place runs ≡ outline place others
-  same_outlines [] [] e same = refl
-  same_outlines [] (o ∷ others) e same = absurd (omega arith)
-  same_outlines (r ∷ runs) [] e same = absurd (omega arith)
-  same_outlines (r ∷ runs) (o ∷ others) e same =
-      let here = same 0 (omega arith) r in
-      let rest = same_outlines runs others (omega arith) (λ k h d. same (suc k) (omega arith) d) in
-      λ i. (here.0 i, here.1 i, here.2 i) ∷ rest i
-
-  module _ (runs others : List (Run P L)) (e : outline place runs ≡ outline place others) where
-    pub outlines_long : length runs ≡ length others
-    outlines_long = sym (length-map runs outlined) ∙ ap length e ∙ length-map others outlined
-
-    pub outlines_same : (k : ℕ) → k < length runs → (d : Run P L) → SameRun place (get_or runs k d) (get_or others k d)
-    outlines_same k h d =
-        let long = outlines_long in
-        let at : outlined (get_or runs k d) ≡ outlined (get_or others k d) =
-        sym (get_or-map outlined runs k d (outlined d) h) ∙ ap (λ (l : List (Outline L)). get_or l k (outlined d)) e ∙ get_or-map outlined others k d (outlined d) (omega arith) in
-        (ap (λ (t : Outline L). t.0) at, ap (λ (t : Outline L). t.1) at, ap (λ (t : Outline L). t.2) at)
-
   -- each run of a line ends at least as many places on as runs are before it
   row_high : (size from : ℕ) (rows : List (Run P L)) (k : ℕ) (d : Run P L) → k < length rows → Joined place size from rows → from + k ≤ place (get_or rows k d).high
   row_high size from [] k d h j = absurd (omega arith)
@@ -48,23 +47,22 @@ module _ {P L : Type 0} (place : P → ℕ) where
             empty (r ∷ l) j = omega arith
         none (suc m) h j = omega arith
 
-    module _ (mid : ℕ) (r : Run P L) (later : 0 < mid) (lt : mid < length rows) (read : r ≡ get_or rows mid r) where
-      pub listed-before : place r.high ≡ 0 → n ≤ mid
-      listed-before zero_high =
+    module _ (mid : ℕ) (d : Run P L) (later : 0 < mid) (lt : mid < length rows) where
+      pub listed_before : place (get_or rows mid d).high ≡ 0 → n ≤ mid
+      listed_before zero_high =
           ⊎_elim (λ (h : mid < n).
           let long = length-take-le n rows listed.fits in
-          let high = row_high size 0 (take n rows) mid r (omega arith) listed.line.joined in
-          let same : get_or (take n rows) mid r ≡ r = get_or-take n rows mid r h ∙ sym read in
-          let e : place (get_or (take n rows) mid r).high ≡ place r.high = ap (λ (w : Run P L). place w.high) same in
+          let high = row_high size 0 (take n rows) mid d (omega arith) listed.line.joined in
+          let e = ap (λ (w : Run P L). place w.high) (get_or-take n rows mid d h) in
           absurd (omega arith))
           (λ (h : n ≤ mid). h) (cases_lt mid n)
 
-      pub listed-after : (place r.high ≡ 0 → ⊥) → mid < n
-      listed-after other =
+      pub listed_after : (place (get_or rows mid d).high ≡ 0 → ⊥) → mid < n
+      listed_after other =
           ⊎_elim (λ (h : mid < n). h)
           (λ (h : n ≤ mid).
-          let same : r ≡ blank =
-          read ∙ ap (λ (k : ℕ). get_or rows k r) {x = mid} {y = n + (mid - n)} (omega arith) ∙ sym (get_or-drop n rows (mid - n) r) ∙ ap (λ (l : List (Run P L)). get_or l (mid - n) r) listed.blanks
-          ∙ get_or-replicate (length rows - n) (mid - n) blank r (omega arith) in
+          let same : get_or rows mid d ≡ blank =
+          ap (λ (k : ℕ). get_or rows k d) {x = mid} {y = n + (mid - n)} (omega arith) ∙ sym (get_or-drop n rows (mid - n) d) ∙ ap (λ (l : List (Run P L)). get_or l (mid - n) d) listed.blanks
+          ∙ get_or-replicate (length rows - n) (mid - n) blank d (omega arith) in
           absurd (other (ap (λ (w : Run P L). place w.high) same ∙ first)))
           (cases_lt mid n)

@@ -9,6 +9,10 @@ module _ {L : Type 0} (alike : L → L → Bool) (tells : (a b : L) → Decides 
   unfolding changes
   changes_first = refl
 
+  -- up to the first place there is none
+  pub changes_none : (at : ℕ) → at ≡ 0 → 0 ≡ changes alike f (at + 1)
+  changes_none at e = sym (ap (λ (n : ℕ). changes alike f (n + 1)) e ∙ changes_first)
+
   changes_step : (n : ℕ) → changes alike f (n + 1 + 1) ≡ changes alike f (n + 1) + cond (alike (f n) (f (n + 1))) 0 1
   unfolding changes
   changes_step n = simp add-one

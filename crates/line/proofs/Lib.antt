@@ -3,6 +3,7 @@ pub mod Counts
 pub mod Rows
 pub mod Begun
 pub mod Filling
-pub mod Pieces
 pub mod Compared
+pub mod Points
+pub mod Sought
 pub mod Propositions

@@ -1,7 +1,7 @@
 -- The rows of a line by their number, and one row more.
-use Rattle.std.proofs.Common.{◌≡◌, ℕ, zero, suc, ◌+◌, ◌-◌, ◌<◌, ◌≤◌, ◌⊎◌, List, [], ◌∷◌, ◌++◌, length, get_or, take, set, refl, ◌∙◌, inl, inr, zero-le, add-one, arith}
+use Rattle.std.proofs.Common.{◌≡◌, ℕ, zero, suc, ◌+◌, ◌-◌, ◌<◌, ◌≤◌, ◌⊎◌, List, [], ◌∷◌, ◌++◌, length, get_or, refl, ◌∙◌, inl, inr, add-one, arith}
 use Rattle.line.specs.declared.run.Run.{Run}
-use Rattle.line.specs.Line.{Keeps, Joined, Painted, Differ, Line}
+use Rattle.line.specs.Line.{Keeps, Joined, Painted, Differ}
 use Rattle.line.proofs.Lines.{joined_le, order}
 
 module _ {P L : Type 0} (place : P → ℕ) where
@@ -66,10 +66,3 @@ module _ {P L : Type 0} (place : P → ℕ) where
       ends (inl h) = let next = row_next size 0 rows i d h j in omega (arith, high h)
       ends (inr (inl h)) = let last = row_last size 0 rows i d h j in omega arith
       ends (inr (inr h)) = absurd (omega arith)
-
-  -- one row for all
-  pub whole_line : (size : ℕ) (rows : List (Run P L)) (r : Run P L) → 0 < length rows → place r.low ≡ 0 → place r.high + 1 ≡ size
-      → Line place size (λ _. r.label) (take 1 (set rows 0 r))
-  whole_line size [] r lt e f = absurd (omega arith)
-  whole_line size (a ∷ rows) r lt e f =
-      record { joined = (e, zero-le, f); painted = (record { ordered = omega arith; labelled = λ x _ _. refl }, tt); differ = (tt, tt) }

@@ -1,5 +1,4 @@
 pub mod Line
 pub mod Search
 pub mod Laws
-pub mod Alike
 pub mod LabelLemmas

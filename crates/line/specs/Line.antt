@@ -46,10 +46,6 @@ Outline L = ℕ × ℕ × L
 abbrev pub outline : {P L : Type 0} → (P → ℕ) → List (Run P L) → List (Outline L)
 outline place runs = map (λ r. (place r.low, place r.high, r.label)) runs
 
--- two runs have the same places and the same label
-abbrev pub SameRun : {P L : Type 0} → (P → ℕ) → Run P L → Run P L → Type 0
-SameRun place r o = (place r.low ≡ place o.low) × (place r.high ≡ place o.high) × (r.label ≡ o.label)
-
 -- f with the label l from the place `low` to the place `high`
 abbrev pub over : {L : Type 0} → (ℕ → L) → ℕ → ℕ → L → ℕ → L
 over f low high l x = cond (nat_le low x && nat_le x high) l (f x)

@@ -1,42 +1,21 @@
 // Comparing lists of runs, and points by their order.
 ghost use Rattle.std.specs.Prelude.{◌≡◌, ◌-◌, ◌<◌, min, Decides};
-ghost use Rattle.line.specs.Line.{outline, SameRun};
+ghost use Rattle.line.specs.Line.{outline};
 
 use crate::{Label, Point, Run};
-
-// Whether two runs have the same places and the same label.
-fn same_run<P: Point, L: Label>(run: &Run<P, L>, other: &Run<P, L>) -> bool
-    ensures { Decides result (SameRun P.Point.place run.now other.now) }
-{
-    if !run.low.same(&other.low) {
-        return false;
-    }
-    if !run.high.same(&other.high) {
-        return false;
-    }
-    run.label == other.label
-}
 
 // Whether two lists have the same runs, by place and label.
 pub fn same_runs<P: Point, L: Label>(runs: &[Run<P, L>], others: &[Run<P, L>]) -> bool
     ensures { Decides result (outline P.Point.place runs.now ≡ outline P.Point.place others.now) }
 {
-    if runs.len() != others.len() {
-        return false;
-    }
-    for i in 0..runs.len() {
-        if !same_run(&runs[i], &others[i]) {
-            return false;
-        }
-    }
-    true
+    runs == others
 }
 
 // The earlier of two points.
 pub fn earlier<P: Point>(a: &P, b: &P) -> P
     ensures { P.Point.place result ≡ min (P.Point.place a.now) (P.Point.place b.now) }
 {
-    if a.before(b) { *a } else { *b }
+    (*a).min(*b)
 }
 
 // The last point that is before `limit`, which is not the first, and not after `end`.
@@ -44,11 +23,8 @@ pub fn last_before<P: Point>(limit: &P, end: &P) -> P
     requires { 0 < P.Point.place limit.now }
     ensures { P.Point.place result ≡ min (P.Point.place limit.now - 1) (P.Point.place end.now) }
 {
-    if end.before(limit) {
-        return *end;
-    }
     let Some(point) = limit.previous() else {
         unreachable()
     };
-    point
+    point.min(*end)
 }

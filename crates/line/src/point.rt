@@ -1,19 +1,12 @@
-// A kind of point on a finite scale, and the five facts that it has to show.
-ghost use Rattle.std.specs.Prelude.{◌≡◌, ℕ, ◌+◌, ◌<◌, MatchOption, ◌==◌, nat_lt};
+// A kind of point on a finite scale, ordered by its places, and the facts that it has to show.
+ghost use Rattle.std.specs.Prelude.{◌≡◌, ℕ, ◌+◌, ◌<◌, MatchOption, Some, ◌==◌};
+ghost use Rattle.std.specs.Ordering.{nat_cmp};
 
 // A kind of point. `place` says where a point stands, counted from 0, and `size` how many places there are.
-pub trait Point: Copy {
+pub trait Point: Copy + Ord {
     ghost size: { ℕ };
 
     ghost place: { Self → ℕ };
-
-    // Whether two points stand in one place.
-    fn same(&self, other: &Self) -> bool
-        ensures { result ≡ (place self.now == place other.now) };
-
-    // Whether this point stands before another.
-    fn before(&self, other: &Self) -> bool
-        ensures { result ≡ nat_lt (place self.now) (place other.now) };
 
     // The first point.
     fn first() -> Self
@@ -32,4 +25,10 @@ pub trait Point: Copy {
         ensures { MatchOption result (place self.now ≡ 0) (λ p. place p + 1 ≡ place self.now) };
 
     ghost inside: { (p : Self) → place p < size };
+
+    // Two points are equal where they stand in one place.
+    ghost equal_by_place: { (a b : Self) → Self.PartialEq.eq a b ≡ (place a == place b) };
+
+    // Of two points the smaller is the one that stands before the other.
+    ghost ordered_by_place: { (a b : Self) → Self.PartialOrd.partial_cmp a b ≡ Some (nat_cmp (place a) (place b)) };
 }

@@ -1,9 +1,8 @@
-use Rattle.std.proofs.Common.{arith}
-use Rattle.line.proofs.Filling.{fill_more, fill_all}
+use Rattle.std.proofs.Common.{◌∙◌, ap, replicate, ℕ, rules}
+use Rattle.line.proofs.Filling.{filled_with}
 use Rattle.line.proofs.drawing.fill.Goals as goal
 
-pub loop-i-preserved : goal.loop-i-preserved
-loop-i-preserved g c = fill_more _ c.loop-i.rows c.loop-i.i (omega arith) c.loop-i.invariant
-
 pub returns : goal.returns
-returns g c = fill_all _ c.loop-i.rows c.loop-i.i _ (omega arith) (omega arith) (omega arith) c.loop-i.invariant
+returns g c =
+    let ran = c.fill_with.ensures.ran in
+    filled_with _ c.args.value _ (λ x q k. search rules) _ ran.0 ran.1 ∙ ap (λ (n : ℕ). replicate n c.args.value) c.fill_with.ensures.len

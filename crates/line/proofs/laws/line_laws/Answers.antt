@@ -12,5 +12,5 @@ returns g c =
     record {
       one = λ f g' rows others a b. (line_tells place size f g' rows others a b, line_unique place size f g' rows others a b);
       fewest = λ f rows others l j p.
-          (needed_line g.L.Label.alike g.L.Label.tells f place size rows some l, line_fewest g.L.Label.alike g.L.Label.tells f place size rows others some l j p);
+          (needed_line g.L.PartialEq.eq g.met.L.Label.tells f place size rows some l, line_fewest g.L.PartialEq.eq g.met.L.Label.tells f place size rows others some l j p);
     }

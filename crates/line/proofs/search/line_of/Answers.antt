@@ -1,52 +1,22 @@
-use Rattle.std.proofs.Common.{◌≡◌, ℕ, ◌+◌, ◌-◌, ◌/◌, ◌<◌, ◌≤◌, length, take, sym, ap, ◌∙◌, arith}
-use Rattle.std.proofs.lemmas.Bool.{eqb-true, eqb-false}
-use Rattle.line.proofs.Compared.{listed_some, listed-before, listed-after}
+use Rattle.std.proofs.Common.{◌≡◌, ℕ, ◌==◌, Bool, Decides, not, take, ap, ◌∙◌, rules, arith}
+use Rattle.std.proofs.lemmas.Bool.Decides.{Decides-at, Decides-not, Decides-eqb}
+use Rattle.std.proofs.lemmas.List.Sorted.{IsPartitionPoint-from_clause}
+use Rattle.line.specs.declared.run.Run.{Run}
+use Rattle.line.proofs.Sought.{later, later_length, line_parted, line_ends}
 use Rattle.line.proofs.search.line_of.Goals as goal
-
-pub loop-low-init : goal.loop-low-init
-loop-low-init g c =
-    let inside = g.met.P.Point.inside c.first-first.result in
-    let long : 1 ≤ length c.args.rows.now = grind (arith, c.if-is_empty.ensures) in
-    (omega arith, long, omega arith, λ blank f n first listed. (listed_some g.P.Point.place g.P.Point.size (omega arith) blank first f n c.args.rows.now listed, listed.fits))
-
-pub loop-low-preserved-then-same : goal.loop-low-preserved-then-same
-loop-low-preserved-then-same g c =
-    let place = g.P.Point.place in
-    let inside = g.met.P.Point.inside c.first-first.result in
-    let inv = c.loop-low.invariant in
-    let low = c.loop-low.low in
-    let mid = c.loop-low.low + (c.loop-low.high - c.loop-low.low) / 2 in
-    let r = c.index-rows-mid.result in
-    let test : place r.high ≡ 0 = eqb-true _ _ (sym c.same.ensures ∙ c.if-same.true) ∙ c.first-first.ensures in
-    let lt : mid < length c.args.rows.now = omega arith in (
-      inv.0,
-      omega arith,
-      omega arith,
-      λ blank f n first listed.
-          ((inv.3 blank f n first listed).0, listed-before place g.P.Point.size (omega arith) blank first f n c.args.rows.now listed mid r (omega arith) lt c.index-rows-mid.is test),
-    )
-
-pub loop-low-preserved : goal.loop-low-preserved
-loop-low-preserved g c =
-    let place = g.P.Point.place in
-    let inside = g.met.P.Point.inside c.first-first.result in
-    let inv = c.loop-low.invariant in
-    let low = c.loop-low.low in
-    let mid = c.loop-low.low + (c.loop-low.high - c.loop-low.low) / 2 in
-    let r = c.index-rows-mid.result in
-    let test : place r.high ≡ 0 → ⊥ = λ e. eqb-false _ _ (sym c.same.ensures ∙ c.if-same.false) (e ∙ sym c.first-first.ensures) in
-    let lt : mid < length c.args.rows.now = omega arith in (
-      omega arith,
-      omega arith,
-      omega arith,
-      λ blank f n first listed.
-          let after = listed-after place g.P.Point.size (omega arith) blank first f n c.args.rows.now listed mid r (omega arith) lt c.index-rows-mid.is test in
-          (omega arith, (inv.3 blank f n first listed).1),
-    )
 
 pub returns : goal.returns
 returns g c blank f n first listed =
-    let inv = c.loop-low.invariant in
-    let at = inv.3 blank f n first listed in
-    let e : c.loop-low.low - 0 ≡ n = omega arith in
-    ap (λ (m : ℕ). take m c.args.rows.now) e
+    let pt = g.P.Point in
+    let rows = c.args.rows.now in
+    let start = c.first-first.result in
+    let inside = g.met.P.Point.inside start in
+    let more = c.partition_point-more.result in
+    let bound = c.partition_point-more.ensures.bound in
+    let long = later_length rows in
+    let test : Run _ _ → Bool = λ r. not (g.P.PartialEq.eq r.high start) in
+    let tells : (r : Run _ _) → Decides (test r) (pt.place r.high ≡ 0 → ⊥) =
+    λ r. Decides-not _ (Decides-at _ _ (g.met.P.Point.equal_by_place r.high start ∙ ap (λ (k : ℕ). pt.place r.high == k) c.first-first.ensures) (Decides-eqb (pt.place r.high) 0)) in
+    let parted = line_parted pt.place pt.size (omega arith) blank first f n rows listed test tells in
+    let point = IsPartitionPoint-from_clause test (later rows) _ c.partition_point-more.ensures.partitioned parted (λ a r q k. search rules) in
+    ap (λ (m : ℕ). take m rows) (line_ends pt.place pt.size (omega arith) blank first f n rows listed test tells more blank (omega arith) point)
