@@ -3,6 +3,7 @@ ghost use Rattle.std.specs.Prelude.{◌≡◌};
 ghost use Rattle.service.specs.Ports.{carries_ports};
 
 // For each protocol number, whether its packets carry ports.
+// Written out and not a `matches!`: a rule of the project is that a constant table of all protocol numbers says it.
 const CARRIES_PORTS: [bool; 256] = [
     false, false, false, false, false, false,
     // 6: TCP

@@ -1,11 +1,11 @@
 // The service point: protocol by protocol, and port by port within a protocol.
-ghost use Rattle.std.specs.Prelude.{◌≡◌, ℕ, ◌+◌, ◌*◌, ◌^◌, ◌<◌};
-ghost use Rattle.service.specs.ServiceLemmas.{on_the_scale};
+ghost use Rattle.std.specs.Prelude.{◌≡◌, ◌+◌, ◌*◌, ◌^◌, ◌<◌};
+ghost use Rattle.service.specs.ServiceLemmas.{on_the_scale, equal_by_place, ordered_by_place};
 
 use line::Point;
 
 // A protocol and a port.
-#[derive(Clone, Copy)]
+#[derive(Clone, Copy, PartialEq, Eq, PartialOrd, Ord, Debug)]
 pub struct Service {
     protocol: u8,
     port: u16,
@@ -40,14 +40,9 @@ impl Point for Service {
 
     ghost inside = { λ s. on_the_scale s.protocol s.port s.protocol_fits s.port_fits };
 
-    fn same(&self, other: &Self) -> bool {
-        self.protocol == other.protocol && self.port == other.port
-    }
+    ghost equal_by_place = { λ a b. equal_by_place a.protocol a.port b.protocol b.port a.port_fits b.port_fits };
 
-    fn before(&self, other: &Self) -> bool {
-        self.protocol < other.protocol
-            || (self.protocol == other.protocol && self.port < other.port)
-    }
+    ghost ordered_by_place = { λ a b. ordered_by_place a.protocol a.port b.protocol b.port a.port_fits b.port_fits };
 
     fn first() -> Self {
         Service {
@@ -64,34 +59,27 @@ impl Point for Service {
     }
 
     fn next(&self) -> Option<Self> {
-        if self.port < u16::MAX {
+        if let Some(port) = self.port.checked_add(1) {
             return Some(Service {
                 protocol: self.protocol,
-                port: self.port + 1,
+                port,
             });
         }
-        if self.protocol < u8::MAX {
-            return Some(Service {
-                protocol: self.protocol + 1,
-                port: 0,
-            });
-        }
-        None
+        let protocol = self.protocol.checked_add(1)?;
+        Some(Service { protocol, port: 0 })
     }
 
     fn previous(&self) -> Option<Self> {
-        if self.port > 0 {
+        if let Some(port) = self.port.checked_sub(1) {
             return Some(Service {
                 protocol: self.protocol,
-                port: self.port - 1,
+                port,
             });
         }
-        if self.protocol > 0 {
-            return Some(Service {
-                protocol: self.protocol - 1,
-                port: u16::MAX,
-            });
-        }
-        None
+        let protocol = self.protocol.checked_sub(1)?;
+        Some(Service {
+            protocol,
+            port: u16::MAX,
+        })
     }
 }

@@ -3,7 +3,7 @@ ghost use Rattle.std.specs.Prelude.{◌≡◌, ◌^◌, ◌<◌, ◌≤◌, true
 ghost use Rattle.service.specs.Ports.{has_ports, number_fits};
 
 // All services where there is no protocol, and else the ports of the protocol from `low` to `high`. The ports are all of them where the span is not of a protocol that carries ports.
-#[derive(Clone, Copy)]
+#[derive(Clone, Copy, PartialEq, Eq, Debug)]
 pub struct Span {
     pub(crate) protocol: Option<u8>,
     pub(crate) low: u16,
