@@ -1,8 +1,10 @@
 -- Where a text is cut, and what its parts are then.
-use Rattle.std.proofs.Common.{◌≡◌, ℕ, suc, ◌+◌, ◌<◌, ◌≤◌, Bool, true, false, cond, eqb, ltb, List, [], ◌∷◌, ◌++◌, length, get_or, take, drop, sym, refl, ap, ◌∙◌, subst, add-one, arith, eq-eqb, ne_eqb}
-use Rattle.std.proofs.lemmas.List.{take-append-drop, drop_more}
+use Rattle.std.proofs.Common.{◌≡◌, ℕ, suc, ◌+◌, ◌-◌, ◌<◌, ◌≤◌, Bool, true, false, cond, eqb, ltb, List, [], ◌∷◌, ◌++◌, length, take, drop, sym, refl, ap, ◌∙◌, subst, add-one, arith, eq-eqb, ne_eqb}
+use Rattle.std.proofs.lemmas.List.{take-append-drop, drop_more, take_rest, length-take-le, get_or-take}
+use Rattle.std.proofs.ByRecursion.{All-from_get_or}
+use Rattle.std.specs.List.{HoldsAt, AllWithin}
 use Rattle.std.proofs.lemmas.Bool.Decides.{nat_tests}
-use Rattle.text.specs.Parts.{Lacks, first_part, onto, parts}
+use Rattle.text.specs.Parts.{Lacks, Cut, first_part, onto, parts}
 
 -- a text has one first stop
 pub same_cut : (stop : ℕ) (f x r y : List ℕ) → Lacks stop f → Lacks stop x → f ++ (stop ∷ r) ≡ x ++ (stop ∷ y) → (f ≡ x) × (r ≡ y)
@@ -23,10 +25,13 @@ stops stop (b ∷ x) y l = stops stop x y l.1
 pub no_cut : (stop : ℕ) (text x y : List ℕ) → Lacks stop text → x ++ (stop ∷ y) ≡ text → ⊥
 no_cut stop text x y l e = stops stop x y (subst (λ (t : List ℕ). Lacks stop t) (sym e) l)
 
--- the cut at a place that holds the stop
-pub cut_at : (stop i : ℕ) (text : List ℕ) → i < length text → get_or text i 0 ≡ stop → text ≡ take i text ++ (stop ∷ drop (i + 1) text)
-cut_at stop i text h e =
-    sym (take-append-drop i text) ∙ ap (λ (q : List ℕ). take i text ++ q) (drop_more text i 0 h ∙ ap (λ (b : ℕ). b ∷ drop (i + 1) text) e)
+-- the cut at the first place that holds the stop
+pub cut_at : (stop i : ℕ) (text : List ℕ) → i < length text → HoldsAt (λ b. b ≡ stop) text i → AllWithin (λ b. b ≡ stop → ⊥) text 0 i → Cut stop text (take i text) (take (length text - (i + 1)) (drop (i + 1) text))
+cut_at stop i text h e before = record {
+  whole = sym (take-append-drop i text)
+      ∙ ap (λ (q : List ℕ). take i text ++ q) (drop_more text i 0 h ∙ (ap (λ (b : ℕ). b ∷ drop (i + 1) text) (e 0) ∙ ap (λ (q : List ℕ). stop ∷ q) (sym (take_rest text (i + 1)))));
+  first = All-from_get_or (λ (b : ℕ). b ≡ stop → ⊥) (take i text) 0 (λ k l. let n = length-take-le i text (omega arith) in let lt : k < i = omega arith in rw (get_or-take i text k 0 lt) (before k 0 (omega arith) (omega arith)));
+}
 
 -- the parts of a text that is cut
 pub parts_cut : (stop : ℕ) (last : List (List ℕ)) (front rest : List ℕ) → Lacks stop front → parts stop last (front ++ (stop ∷ rest)) ≡ front ∷ parts stop last rest

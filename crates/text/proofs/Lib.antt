@@ -1,4 +1,4 @@
-pub mod Putting
 pub mod Cutting
 pub mod Walking
 pub mod Decimals
+pub mod Turns

@@ -2,7 +2,7 @@
 ghost use Rattle.std.specs.Prelude.{◌≡◌, MatchOption};
 ghost use Rattle.text.specs.Parts.{Lacks, Cut, first_part};
 
-// A text without the byte that parts it.
+// A text without the byte that parts it; a struct, since names tell what stands where plainer than the pair of str's split_once.
 #[derive(Clone, Copy)]
 pub struct Parted<'t> {
     pub front: &'t [u8],
@@ -13,15 +13,11 @@ pub struct Parted<'t> {
 pub fn cut(text: &[u8], stop: u8) -> Option<Parted<'_>>
     ensures { MatchOption result (Lacks stop text.now) (λ p. Cut stop text.now p.front.now p.rest.now) }
 {
-    for i in 0..text.len() {
-        if text[i] == stop {
-            return Some(Parted {
-                front: &text[0..i],
-                rest: &text[i + 1..text.len()],
-            });
-        }
-    }
-    None
+    let at = text.iter().position(|byte| *byte == stop)?;
+    Some(Parted {
+        front: &text[..at],
+        rest: &text[at + 1..],
+    })
 }
 
 // What stands before the first `stop`, or the whole text where it has none.

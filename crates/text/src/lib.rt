@@ -1,20 +1,25 @@
-// Texts in parts, numbers in decimal digits, and texts that are written into a buffer.
+// Texts in parts, numbers in decimal digits, and texts that are measured and written into a buffer.
 #![tactic(auto)]
 
-mod buffers;
 mod cuts;
 mod field;
 mod fields;
 mod numbers;
+mod parts;
+mod room;
 mod row;
 mod rows;
+mod sink;
 #[cfg(test)]
 mod tests;
+mod writer;
 
-pub use buffers::{put_byte, put_text};
 pub use cuts::{Parted, cut};
 pub use field::Field;
 pub use fields::Fields;
-pub use numbers::{read_number, write_number};
+pub use numbers::{put_number, read_number};
+pub use room::Room;
 pub use row::Row;
 pub use rows::Rows;
+pub use sink::Sink;
+pub use writer::Writer;

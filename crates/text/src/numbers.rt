@@ -1,47 +1,34 @@
 // Numbers in decimal digits, with no zero in front.
-ghost use Rattle.std.specs.Prelude.{◌≡◌, ℕ, ◌+◌, ◌≤◌, length, decimal, MatchOption, ◌≢◌};
-ghost use Rattle.text.specs.Buffers.{put};
+ghost use Rattle.std.specs.Prelude.{◌≡◌, ℕ, ◌≤◌, decimal, MatchOption, ◌≢◌};
 
-use crate::buffers::put_byte;
+use crate::Sink;
 
 // The number from 0 to `top` that these are the digits of.
 pub fn read_number(bytes: &[u8], top: u32) -> Option<u32>
     ensures { MatchOption result ((n : ℕ) → n ≤ top → decimal n ≢ bytes.now) (λ n. (n ≤ top) × (decimal n ≡ bytes.now)) }
 {
-    let [first, rest @ ..] = bytes else {
-        return None;
-    };
-    if bytes.len() > 10 {
-        return None;
-    }
-    if *first == b'0' && rest.len() > 0 {
+    // `parse` would take a plus and zeros in front too.
+    let (first, rest) = bytes.split_first()?;
+    if *first == b'+' {
         return None;
     }
-    let mut number: u64 = 0;
-    for byte in bytes {
-        if *byte < b'0' {
-            return None;
-        }
-        if *byte > b'9' {
-            return None;
-        }
-        number = number * 10 + (*byte - b'0') as u64;
-    }
-    if number > top as u64 {
+    if *first == b'0' && !rest.is_empty() {
         return None;
     }
-    Some(number as u32)
+    let number: u32 = str::from_utf8(bytes).ok()?.parse().ok()?;
+    if number > top {
+        return None;
+    }
+    Some(number)
 }
 
-// Writes the digits of a number, and says where they end.
-pub fn write_number(n: usize, out: &mut [u8], at: usize) -> usize
-    requires { at + length (decimal n) ≤ length out.old }
-    ensures end { result ≡ at + length (decimal n) }
-    ensures wrote { out.new ≡ put out.old at (decimal n) }
+// Puts the digits of a number. A `Display` is no plainer here: `write!` does not promise to succeed where there is room, so that every caller would have a failure to rule out.
+pub fn put_number<S: Sink>(n: usize, sink: &mut S)
+    requires { S.Sink.has_room sink.old (decimal n) }
+    ensures { S.Sink.takes sink.old (decimal n) sink.new }
 {
-    if n < 10 {
-        return put_byte(out, at, b'0' + n as u8);
+    if n >= 10 {
+        put_number(n / 10, sink);
     }
-    let place = write_number(n / 10, out, at);
-    put_byte(out, place, b'0' + (n % 10) as u8)
+    sink.put_byte(b'0' + (n % 10) as u8);
 }

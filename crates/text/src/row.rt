@@ -15,10 +15,6 @@ impl Row<'_> {
     pub fn is_passed_over(&self) -> bool
         ensures { result ≡ passed_over self.now.bytes.now }
     {
-        match self.bytes {
-            [] => true,
-            [b'#', ..] => true,
-            [_, ..] => false,
-        }
+        matches!(self.bytes, [] | [b'#', ..])
     }
 }

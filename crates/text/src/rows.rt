@@ -1,14 +1,11 @@
 // A cursor over the rows of a text.
-ghost use Rattle.std.specs.Prelude.{◌+◌, ◌≤◌, length};
+
+use crate::parts::Parts;
 
 mod walk;
 
-// Stands before the row that begins at `at`, with `line` rows handed out.
+// The rows are the parts of the text, but for an empty last one.
 #[derive(Drop)]
 pub struct Rows<'t> {
-    text: &'t [u8],
-    at: usize,
-    line: usize,
-    ghost within: { at ≤ length text.now + 1 },
-    ghost counted: { line ≤ at },
+    parts: Parts<'t, b'\n'>,
 }

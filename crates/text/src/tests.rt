@@ -1,5 +1,5 @@
 // Rows, fields and numbers by example.
-use crate::{Fields, Rows, read_number};
+use crate::{Fields, Room, Rows, Sink, Writer, put_number, read_number};
 use std::test::Fail;
 
 #[test]
@@ -51,4 +51,27 @@ fn other_texts_are_no_numbers(rt: HostRuntime) {
     assert_eq!(rt; read_number(b"+7", 255), None);
     assert_eq!(rt; read_number(b"4294967296", u32::MAX), None);
     assert_eq!(rt; read_number(&[b'9'; 300], u32::MAX), None);
+}
+
+#[test]
+fn texts_are_written_one_after_another(rt: HostRuntime) {
+    let mut out = [b'.'; 9];
+    let mut writer = Writer::new(&mut out);
+    writer.put(b"net");
+    writer.put_byte(b',');
+    put_number(1040, &mut writer);
+    assert_eq!(rt; writer.end(), 8);
+    assert!(rt; out == *b"net,1040.");
+}
+
+#[test]
+fn a_room_is_left_as_texts_leave_it(rt: HostRuntime) {
+    let mut room = Room::new(8);
+    room.put(b"net");
+    room.put_byte(b',');
+    assert_eq!(rt; room.left(), Some(4));
+    put_number(1040, &mut room);
+    assert_eq!(rt; room.left(), Some(0));
+    room.put_byte(b'.');
+    assert_eq!(rt; room.left(), None);
 }

@@ -1,38 +1,39 @@
 // How a cursor goes over the fields of a row.
-ghost use Rattle.std.specs.Prelude.{◌≡◌, [], MatchOption};
+ghost use Rattle.std.specs.Prelude.{◌≡◌};
+ghost use Rattle.std.specs.Iterator.{at_most};
 ghost use Rattle.text.specs.Parts.{fields};
-ghost use Rattle.text.specs.Cursors.{fields_left, NextField};
+ghost use Rattle.text.specs.Cursors.{fields_left, field_bytes_left, FieldStep};
 
-use crate::cuts::first_part;
+use crate::parts::Parts;
 use crate::{Field, Fields};
 
 impl<'t> Fields<'t> {
     // A cursor that has handed out no field of the row.
     pub fn new(row: &'t [u8]) -> Fields<'t>
         ensures left { fields_left result ≡ fields row.now }
-        ensures number { result.number ≡ 0 }
-        ensures row { result.row.now ≡ row.now }
+        ensures number { result.parts.count ≡ 0 }
+        ensures row { result.parts.text.now ≡ row.now }
     {
         Fields {
-            row,
-            at: 0,
-            number: 0,
+            parts: Parts::new(row),
         }
     }
+}
+
+impl<'t> Iterator for Fields<'t> {
+    type Item = Field<'t>;
+
+    ghost next_gives = { FieldStep };
+
+    ghost remaining = { λ fields. at_most (field_bytes_left fields) };
 
     // The next field, if one is left.
-    pub fn next(&mut self) -> Option<Field<'t>>
-        ensures { MatchOption result ((fields_left self.old ≡ []) × (self.new ≡ self.old)) (λ field. NextField self.old field self.new) }
-    {
-        let row = self.row;
-        let start = self.at;
-        if start > row.len() {
+    fn next(&mut self) -> Option<Field<'t>> {
+        if self.parts.at > self.parts.text.len() {
             return None;
         }
-        let bytes = first_part(&row[start..row.len()], b',');
-        let number = self.number + 1;
-        self.at = start + bytes.len() + 1;
-        self.number = number;
+        let bytes = self.parts.part();
+        let number = self.parts.count;
         Some(Field { bytes, number })
     }
 }

@@ -3,6 +3,6 @@ use Rattle.std.proofs.Common.{refl}
 use Rattle.text.specs.Cursors.{rows_left}
 use Rattle.text.proofs.rows.Rows.new.Goals as goal
 
-pub returns : goal.returns
+pub returns-clause-left : goal.returns-clause-left
 unfolding rows_left
-returns c = record { left = refl; line = refl; start = refl; text = refl }
+returns-clause-left c = rw (c.new.ensures.text, c.new.ensures.at) refl

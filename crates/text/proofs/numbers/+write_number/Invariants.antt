@@ -1,5 +1,0 @@
--- Each call writes fewer digits.
-use Rattle.text.proofs.numbers.+write_number.Given as goal
-
-abbrev pub decreases-write_number : goal.decreases-write_number
-decreases-write_number l = l.n

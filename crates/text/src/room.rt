@@ -1,0 +1,41 @@
+// Texts that are measured before they are written.
+ghost use Rattle.std.specs.Prelude.{◌≡◌, Some};
+ghost use Rattle.text.specs.Rooms.{AnyText, Leaves};
+ghost use Rattle.text.specs.Measures.{leaves_in_turn};
+
+use crate::Sink;
+
+// What the texts leave of a room of so many bytes; none where it is too small for them.
+#[derive(Clone, Copy)]
+pub struct Room {
+    left: Option<usize>,
+}
+
+impl Room {
+    // A room that no text has taken from.
+    pub fn new(bytes: usize) -> Room
+        ensures { result.left ≡ Some bytes }
+    {
+        Room { left: Some(bytes) }
+    }
+
+    // How many bytes are left.
+    pub fn left(&self) -> Option<usize>
+        ensures { result ≡ self.now.left }
+    {
+        self.left
+    }
+}
+
+impl Sink for Room {
+    ghost has_room = { AnyText };
+
+    ghost takes = { Leaves };
+
+    fn put(&mut self, text: &[u8]) {
+        let Room { left } = self;
+        *left = left.and_then(|bytes| bytes.checked_sub(text.len()));
+    }
+
+    ghost laws = { leaves_in_turn };
+}
