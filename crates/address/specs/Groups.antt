@@ -4,8 +4,10 @@ use Rattle.std.proofs.Common.{◌∙◌, ap, sym, subst, arith}
 use Rattle.std.proofs.ByRecursion.{All-append}
 use Rattle.std.proofs.lemmas.List.{length-append, take_at, drop_at, get_or_at, take_all, drop-drop}
 use Rattle.std.proofs.lemmas.Bool.Decides.{nat_tests}
+use Rattle.std.proofs.lemmas.Nat.{div-add-mod', pow_pos}
+use Rattle.std.proofs.Math.Nat.{mod-lt, div-lt_iff_lt-mul}
 use Rattle.text.specs.Parts.{Lacks}
-use Rattle.address.specs.Texts.{digit, group, groups2, groups4, text6}
+use Rattle.address.specs.Texts.{digit, group, halves, groups2, groups4, text6}
 
 -- a digit tells its value
 pub digit_same : (d e : ℕ) → d < 16 → e < 16 → digit d ≡ digit e → d ≡ e
@@ -61,13 +63,17 @@ plain1 stop g low = (high_lacks stop (g / 4096) low, (high_lacks stop (g / 256 %
 plain_halves : (stop : ℕ) (a b : List ℕ) → stop < 48 → Lacks stop a → Lacks stop b → Lacks stop (a ++ (58 ∷ b))
 plain_halves stop a b low la lb = All-append (λ (x : ℕ). x ≢ stop) a (58 ∷ b) la ((λ e. omega arith), lb)
 
+-- a number as two halves has no byte below '0' where a half has none
+pub lacks_halves : (half : ℕ → List ℕ) (bits stop n : ℕ) → stop < 48 → ((m : ℕ) → Lacks stop (half m)) → Lacks stop (halves half bits n)
+lacks_halves half bits stop n low l = plain_halves stop (half (n / 2 ^ bits)) (half (n % 2 ^ bits)) low (l (n / 2 ^ bits)) (l (n % 2 ^ bits))
+
 -- two groups have no byte below '0'
 pub plain2 : (stop n : ℕ) → stop < 48 → Lacks stop (groups2 n)
-plain2 stop n low = plain_halves stop (group (n / 2 ^ 16)) (group (n % 2 ^ 16)) low (plain1 stop (n / 2 ^ 16) low) (plain1 stop (n % 2 ^ 16) low)
+plain2 stop n low = lacks_halves group 16 stop n low (λ m. plain1 stop m low)
 
 -- four groups have no byte below '0'
 pub plain4 : (stop n : ℕ) → stop < 48 → Lacks stop (groups4 n)
-plain4 stop n low = plain_halves stop (groups2 (n / 2 ^ 32)) (groups2 (n % 2 ^ 32)) low (plain2 stop (n / 2 ^ 32) low) (plain2 stop (n % 2 ^ 32) low)
+plain4 stop n low = lacks_halves groups2 32 stop n low (λ m. plain2 stop m low)
 
 -- an IPv6 text has no byte below '0'
 pub plain6 : (stop h l : ℕ) → stop < 48 → Lacks stop (text6 h l)
@@ -84,21 +90,28 @@ both k a b x y la lb lx ly e =
     let q = halved k x y _ lx ly refl in
     (sym p.front ∙ q.front, sym p.rest ∙ q.rest)
 
+-- a number as two halves of k bytes is told by them where each half tells its own
+pub same_halves : (half : ℕ → List ℕ) (bits k m n : ℕ) → ((x : ℕ) → length (half x) ≡ k) → ((x y : ℕ) → x < 2 ^ bits → y < 2 ^ bits → half x ≡ half y → x ≡ y)
+    → m < 2 ^ bits * 2 ^ bits → n < 2 ^ bits * 2 ^ bits → halves half bits m ≡ halves half bits n → m ≡ n
+same_halves half bits k m n long tells hm hn e =
+    let w : ℕ = 2 ^ bits in
+    let some : 0 < w = pow_pos bits in
+    let p = both k (half (m / w)) (half (m % w)) (half (n / w)) (half (n % w)) (long _) (long _) (long _) (long _) e in
+    let a = tells (m / w) (n / w) ((div-lt_iff_lt-mul some).1 hm) ((div-lt_iff_lt-mul some).1 hn) p.0 in
+    let b = tells (m % w) (n % w) (mod-lt m some) (mod-lt n some) p.1 in
+    sym (div-add-mod' m w) ∙ (ap (λ (x : ℕ). x * w + m % w) a ∙ (ap (λ (x : ℕ). n / w * w + x) b ∙ div-add-mod' n w))
+
 -- two groups tell their number
 pub same2 : (m n : ℕ) → m < 2 ^ 32 → n < 2 ^ 32 → groups2 m ≡ groups2 n → m ≡ n
-same2 m n hm hn e =
-    let p = both 4 (group (m / 2 ^ 16)) (group (m % 2 ^ 16)) (group (n / 2 ^ 16)) (group (n % 2 ^ 16)) refl refl refl refl e in
-    let a = group_same (m / 2 ^ 16) (n / 2 ^ 16) (omega arith) (omega arith) p.0 in
-    let b = group_same (m % 2 ^ 16) (n % 2 ^ 16) (omega arith) (omega arith) p.1 in
-    omega arith
+same2 m n hm hn e = same_halves group 16 4 m n (λ _. refl) group_same hm hn e
 
 -- four groups tell their number
 pub same4 : (m n : ℕ) → m < 2 ^ 64 → n < 2 ^ 64 → groups4 m ≡ groups4 n → m ≡ n
-same4 m n hm hn e =
-    let p = both 9 (groups2 (m / 2 ^ 32)) (groups2 (m % 2 ^ 32)) (groups2 (n / 2 ^ 32)) (groups2 (n % 2 ^ 32)) refl refl refl refl e in
-    let a = same2 (m / 2 ^ 32) (n / 2 ^ 32) (omega arith) (omega arith) p.0 in
-    let b = same2 (m % 2 ^ 32) (n % 2 ^ 32) (omega arith) (omega arith) p.1 in
-    omega arith
+same4 m n hm hn e = same_halves groups2 32 9 m n (λ _. refl) same2 hm hn e
+
+-- an IPv6 text tells its number
+pub same8 : (m n : ℕ) → m < 2 ^ 128 → n < 2 ^ 128 → text6 (m / 2 ^ 64) (m % 2 ^ 64) ≡ text6 (n / 2 ^ 64) (n % 2 ^ 64) → m ≡ n
+same8 m n hm hn e = same_halves groups4 64 19 m n (λ _. refl) same4 hm hn e
 
 -- an IPv6 text tells both halves of its address
 pub same6 : (h l h' l' : ℕ) → h < 2 ^ 64 → l < 2 ^ 64 → h' < 2 ^ 64 → l' < 2 ^ 64 → text6 h l ≡ text6 h' l' → (h ≡ h') × (l ≡ l')

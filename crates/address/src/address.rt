@@ -1,11 +1,11 @@
 // What a kind of addresses offers: places on its line, a text for each, and the heads of its packets.
 ghost use Rattle.std.specs.Prelude.{◌≡◌, ℕ, ◌+◌, ◌≤◌, true, List, ◌++◌, length, MatchOption, ◌≢◌};
-ghost use Rattle.text.specs.Buffers.{put};
 ghost use Rattle.text.specs.Parts.{Lacks};
 ghost use Rattle.address.specs.Layouts.{Layout, Whole, Says, Steady};
 
 use crate::Header;
 use line::Point;
+use text::Sink;
 
 // A point that has one text, which no other point has.
 pub trait Address: Point {
@@ -16,11 +16,10 @@ pub trait Address: Point {
     fn read_text(bytes: &[u8]) -> Option<Self>
         ensures { MatchOption result ((a : Self) → text a ≢ bytes.now) (λ a. text a ≡ bytes.now) };
 
-    // Writes the text, and says where it ends.
-    fn write_text(&self, out: &mut [u8], at: usize) -> usize
-        requires { at + length (text self.now) ≤ length out.old }
-        ensures end { result ≡ at + length (text self.now) }
-        ensures wrote { out.new ≡ put out.old at (text self.now) };
+    // Puts the text. A `Display` is no plainer: its writer may fail after some of the text, and a sink with room takes it all.
+    fn write_text<S: Sink>(&self, sink: &mut S)
+        requires { S.Sink.has_room sink.old (text self.now) }
+        ensures { S.Sink.takes sink.old (text self.now) sink.new };
 
     // how the head of a packet between such addresses stands in its bytes
     ghost layout: { Layout };

@@ -1,38 +1,28 @@
 // The numbers of an IPv4 text, each with the dot that ends it.
-ghost use Rattle.std.specs.Prelude.{◌≡◌, ℕ, ◌+◌, ◌<◌, ◌≤◌, List, [], ◌∷◌, ◌++◌, length, decimal, MatchOption, ◌≢◌};
-ghost use Rattle.text.specs.Buffers.{put};
+ghost use Rattle.std.specs.Prelude.{◌≡◌, ℕ, ◌≤◌, List, [], ◌∷◌, ◌++◌, decimal, MatchOption, ◌≢◌};
 
-use text::{cut, put_byte, read_number, write_number};
+use text::{Sink, cut, put_number, read_number};
 
-// A number, and what stands after the dot that ends it.
-#[derive(Clone, Copy)]
-pub(crate) struct Leading<'t> {
-    pub number: u32,
-    pub rest: &'t [u8],
+// The byte that these are the digits of.
+pub(crate) fn read_byte(bytes: &[u8]) -> Option<u8>
+    ensures { MatchOption result ((n : ℕ) → n ≤ 255 → decimal n ≢ bytes.now) (λ n. (n ≤ 255) × (decimal n ≡ bytes.now)) }
+{
+    Some(read_number(bytes, 255)? as u8)
 }
 
-// The number from 0 to 255 before the first dot.
-pub(crate) fn read_dotted(bytes: &[u8]) -> Option<Leading<'_>>
-    ensures { MatchOption result ((n : ℕ) (rest : List ℕ) → n ≤ 255 → decimal n ++ (46 ∷ rest) ≢ bytes.now) (λ p. (p.number ≤ 255) × (decimal p.number ++ (46 ∷ p.rest.now) ≡ bytes.now)) }
+// The byte before the first dot, and what stands after it.
+pub(crate) fn read_dotted(bytes: &[u8]) -> Option<(u8, &[u8])>
+    ensures { MatchOption result ((n : ℕ) (rest : List ℕ) → n ≤ 255 → decimal n ++ (46 ∷ rest) ≢ bytes.now) (λ p. (p.0 ≤ 255) × (decimal p.0 ++ (46 ∷ p.1.now) ≡ bytes.now)) }
 {
-    match cut(bytes, b'.') {
-        None => None,
-        Some(parted) => match read_number(parted.front, 255) {
-            None => None,
-            Some(number) => Some(Leading {
-                number,
-                rest: parted.rest,
-            }),
-        },
-    }
+    let parted = cut(bytes, b'.')?;
+    Some((read_byte(parted.front)?, parted.rest))
 }
 
-// Writes a number and a dot, and says where they end.
-pub(crate) fn write_dotted(n: usize, out: &mut [u8], at: usize) -> usize
-    requires { at + length (decimal n) < length out.old }
-    ensures end { result ≡ at + (length (decimal n) + 1) }
-    ensures wrote { out.new ≡ put out.old at (decimal n ++ (46 ∷ [])) }
+// Puts a byte and a dot.
+pub(crate) fn write_dotted<S: Sink>(n: u8, sink: &mut S)
+    requires { S.Sink.has_room sink.old (decimal n ++ (46 ∷ [])) }
+    ensures { S.Sink.takes sink.old (decimal n ++ (46 ∷ [])) sink.new }
 {
-    let end = write_number(n, out, at);
-    put_byte(out, end, b'.')
+    put_number(usize::from(n), sink);
+    sink.put_byte(b'.');
 }

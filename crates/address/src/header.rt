@@ -7,5 +7,6 @@ pub struct Header<P> {
     pub destination: P,
     pub protocol: u8,
     pub end: usize,
+    // A flag and no Option round the rest, which the head of a later fragment tells as well.
     pub later: bool,
 }

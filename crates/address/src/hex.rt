@@ -1,11 +1,10 @@
 // The groups of an IPv6 text, by halves.
-ghost use Rattle.std.specs.Prelude.{◌≡◌, ℕ, ◌+◌, ◌^◌, ◌<◌, ◌≤◌, length, MatchOption, ◌≢◌};
+ghost use Rattle.std.specs.Prelude.{◌≡◌, ℕ, ◌^◌, ◌<◌, List, ◌∷◌, ◌++◌, length, MatchOption, ◌≢◌, refl};
 ghost use Rattle.address.specs.Texts.{digit, group, groups2, groups4};
-ghost use Rattle.text.specs.Buffers.{put};
 
-use text::put_byte;
+use text::Sink;
 
-// The value of a hexadecimal digit.
+// The value of a hexadecimal digit. By hand: std's `to_digit` takes capital letters too, which no text has here.
 pub fn read_digit(b: u8) -> Option<u8>
     ensures { MatchOption result ((d : ℕ) → d < 16 → digit d ≢ b) (λ d. (d < 16) × (digit d ≡ b)) }
 {
@@ -16,7 +15,7 @@ pub fn read_digit(b: u8) -> Option<u8>
     }
 }
 
-// The hexadecimal digit of a value.
+// The hexadecimal digit of a value. Std's `from_digit` is no plainer: it answers an `Option` of a `char`, to be turned into a byte again.
 fn write_digit(d: u8) -> u8
     requires { d < 16 }
     ensures { result ≡ digit d }
@@ -24,90 +23,104 @@ fn write_digit(d: u8) -> u8
     if d < 10 { b'0' + d } else { b'a' - 10 + d }
 }
 
-// The 16 bits of four hexadecimal digits.
-fn read_group(bytes: &[u8]) -> Option<u16>
-    ensures { MatchOption result ((g : ℕ) → g < 2 ^ 16 → group g ≢ bytes.now) (λ g. (g < 2 ^ 16) × (group g ≡ bytes.now)) }
-{
-    let [a, b, c, d] = bytes else {
-        return None;
-    };
-    let Some(a) = read_digit(*a) else {
-        return None;
-    };
-    let Some(b) = read_digit(*b) else {
-        return None;
-    };
-    let Some(c) = read_digit(*c) else {
-        return None;
-    };
-    let Some(d) = read_digit(*d) else {
-        return None;
-    };
-    Some(a as u16 * 4096 + b as u16 * 256 + c as u16 * 16 + d as u16)
+// A number with a text: one group, or two halves of it that a colon parts.
+pub(crate) trait Groups: Copy {
+    // the text of a number
+    ghost text: { Self → List ℕ };
+
+    // the number has no more bits than its text tells
+    ghost fits: { Self → Type 0 };
+
+    // The number that has this text.
+    fn read(bytes: &[u8]) -> Option<Self>
+        ensures { MatchOption result ((n : Self) → fits n → text n ≢ bytes.now) (λ n. fits n × (text n ≡ bytes.now)) };
+
+    // Puts the text.
+    fn write<S: Sink>(self, sink: &mut S)
+        requires { S.Sink.has_room sink.old (text self) }
+        ensures { S.Sink.takes sink.old (text self) sink.new };
+
+    // all texts are of one length
+    ghost even: { (n m : Self) → length (text n) ≡ length (text m) };
 }
 
-// Writes four hexadecimal digits, and says where they end.
-fn write_group(g: u16, out: &mut [u8], at: usize) -> usize
-    requires { at + 4 ≤ length out.old }
-    ensures end { result ≡ at + 4 }
-    ensures wrote { out.new ≡ put out.old at (group g) }
+// The two halves that a colon parts.
+pub(crate) fn read_halves<H: Groups>(bytes: &[u8]) -> Option<(H, H)>
+    ensures { MatchOption result ((high low : H) → H.fits high → H.fits low → H.text high ++ (58 ∷ H.text low) ≢ bytes.now) (λ p. H.fits p.0 × H.fits p.1 × (H.text p.0 ++ (58 ∷ H.text p.1) ≡ bytes.now)) }
 {
-    let b = put_byte(out, at, write_digit((g / 4096) as u8));
-    let c = put_byte(out, b, write_digit((g / 256 % 16) as u8));
-    let d = put_byte(out, c, write_digit((g / 16 % 16) as u8));
-    put_byte(out, d, write_digit((g % 16) as u8))
+    let (front, back) = bytes.split_at(bytes.len() / 2);
+    let [b':', rest @ ..] = back else {
+        return None;
+    };
+    Some((H::read(front)?, H::read(rest)?))
 }
 
-// The 32 bits of two groups that a colon parts.
-fn read_two(bytes: &[u8]) -> Option<u32>
-    ensures { MatchOption result ((n : ℕ) → n < 2 ^ 32 → groups2 n ≢ bytes.now) (λ n. (n < 2 ^ 32) × (groups2 n ≡ bytes.now)) }
+// Puts two halves with a colon between them.
+pub(crate) fn write_halves<H: Groups, S: Sink>(high: H, low: H, sink: &mut S)
+    requires { S.Sink.has_room sink.old (H.text high ++ (58 ∷ H.text low)) }
+    ensures { S.Sink.takes sink.old (H.text high ++ (58 ∷ H.text low)) sink.new }
 {
-    if bytes.len() != 9 || bytes[4] != b':' {
-        return None;
+    high.write(sink);
+    sink.put_byte(b':');
+    low.write(sink);
+}
+
+impl Groups for u16 {
+    ghost text = { group };
+
+    ghost fits = { λ n. n < 2 ^ 16 };
+
+    fn read(bytes: &[u8]) -> Option<Self> {
+        let [a, b, c, d] = bytes else {
+            return None;
+        };
+        let high = u16::from(read_digit(*a)?) * 4096 + u16::from(read_digit(*b)?) * 256;
+        Some(high + u16::from(read_digit(*c)?) * 16 + u16::from(read_digit(*d)?))
     }
-    let Some(high) = read_group(&bytes[0..4]) else {
-        return None;
-    };
-    let Some(low) = read_group(&bytes[5..9]) else {
-        return None;
-    };
-    Some(high as u32 * 65536 + low as u32)
-}
 
-// Writes two groups, and says where they end.
-fn write_two(n: u32, out: &mut [u8], at: usize) -> usize
-    requires { at + 9 ≤ length out.old }
-    ensures end { result ≡ at + 9 }
-    ensures wrote { out.new ≡ put out.old at (groups2 n) }
-{
-    let end = write_group((n / 65536) as u16, out, at);
-    let next = put_byte(out, end, b':');
-    write_group((n % 65536) as u16, out, next)
-}
-
-// The 64 bits of four groups that colons part.
-pub(crate) fn read_four(bytes: &[u8]) -> Option<u64>
-    ensures { MatchOption result ((n : ℕ) → n < 2 ^ 64 → groups4 n ≢ bytes.now) (λ n. (n < 2 ^ 64) × (groups4 n ≡ bytes.now)) }
-{
-    if bytes.len() != 19 || bytes[9] != b':' {
-        return None;
+    fn write<S: Sink>(self, sink: &mut S) {
+        sink.put(&[
+            write_digit((self / 4096) as u8),
+            write_digit((self / 256 % 16) as u8),
+            write_digit((self / 16 % 16) as u8),
+            write_digit((self % 16) as u8),
+        ]);
     }
-    let Some(high) = read_two(&bytes[0..9]) else {
-        return None;
-    };
-    let Some(low) = read_two(&bytes[10..19]) else {
-        return None;
-    };
-    Some(high as u64 * 4294967296 + low as u64)
+
+    ghost even = { λ n m. refl };
 }
 
-// Writes four groups, and says where they end.
-pub(crate) fn write_four(n: u64, out: &mut [u8], at: usize) -> usize
-    requires { at + 19 ≤ length out.old }
-    ensures end { result ≡ at + 19 }
-    ensures wrote { out.new ≡ put out.old at (groups4 n) }
-{
-    let end = write_two((n / 4294967296) as u32, out, at);
-    let next = put_byte(out, end, b':');
-    write_two((n % 4294967296) as u32, out, next)
+// Beside the one for `u64` and not one for both: the new form is no plainer, since std has no trait that ties a number to the one of twice its bits, and one of our own would say the same again for each.
+impl Groups for u32 {
+    ghost text = { groups2 };
+
+    ghost fits = { λ n. n < 2 ^ 32 };
+
+    fn read(bytes: &[u8]) -> Option<Self> {
+        let (high, low) = read_halves::<u16>(bytes)?;
+        Some(u32::from(high) * (1 << 16) + u32::from(low))
+    }
+
+    fn write<S: Sink>(self, sink: &mut S) {
+        write_halves((self >> 16) as u16, (self % (1 << 16)) as u16, sink);
+    }
+
+    ghost even = { λ n m. refl };
+}
+
+impl Groups for u64 {
+    ghost text = { groups4 };
+
+    ghost fits = { λ n. n < 2 ^ 64 };
+
+    fn read(bytes: &[u8]) -> Option<Self> {
+        let (high, low) = read_halves::<u32>(bytes)?;
+        Some(u64::from(high) * (1 << 32) + u64::from(low))
+    }
+
+    fn write<S: Sink>(self, sink: &mut S) {
+        write_halves((self >> 32) as u32, (self % (1 << 32)) as u32, sink);
+    }
+
+    ghost even = { λ n m. refl };
 }

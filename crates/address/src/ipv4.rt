@@ -1,19 +1,19 @@
 // IPv4 addresses.
 ghost use Rattle.std.specs.Prelude.{◌≡◌, ◌+◌, ◌<◌, ◌^◌};
-ghost use Rattle.std.proofs.Common.{ap};
+ghost use Rattle.std.proofs.Common.{ap, refl};
 ghost use Rattle.address.specs.Layouts.{layout4};
 ghost use Rattle.address.specs.Texts.{text4};
 ghost use Rattle.address.specs.Dots.{short4, unparted4, same4};
 ghost use Rattle.address.specs.Heads.{steady4};
 
-use crate::bytes::{read_u16, read_u32};
-use crate::dotted::{read_dotted, write_dotted};
+use crate::bytes::bytes_at;
+use crate::dotted::{read_byte, read_dotted, write_dotted};
 use crate::{Address, Header};
 use line::Point;
-use text::{read_number, write_number};
+use text::{Sink, put_number};
 
 // An address by its number, the first byte of its text the highest.
-#[derive(Clone, Copy)]
+#[derive(Clone, Copy, PartialEq, Eq, PartialOrd, Ord)]
 pub struct Ipv4 {
     value: u32,
     ghost fits: { value < 2 ^ 32 },
@@ -35,18 +35,27 @@ impl Ipv4 {
     }
 }
 
+// These two and the `Point` stand beside those of `Ipv6`, where a line says why they are not one for both.
+impl From<u32> for Ipv4 {
+    ghost from_gives = { λ value a. a.value ≡ value };
+
+    fn from(value: u32) -> Self {
+        Ipv4::new(value)
+    }
+}
+
+impl From<Ipv4> for u32 {
+    ghost from_gives = { λ a value. value ≡ a.value };
+
+    fn from(address: Ipv4) -> u32 {
+        address.value()
+    }
+}
+
 impl Point for Ipv4 {
     ghost size = { 2 ^ 32 };
 
     ghost place = { λ a. a.value };
-
-    fn same(&self, other: &Self) -> bool {
-        self.value == other.value
-    }
-
-    fn before(&self, other: &Self) -> bool {
-        self.value < other.value
-    }
 
     fn first() -> Self {
         Ipv4 { value: 0 }
@@ -57,53 +66,37 @@ impl Point for Ipv4 {
     }
 
     fn next(&self) -> Option<Self> {
-        if self.value == u32::MAX {
-            None
-        } else {
-            Some(Ipv4 {
-                value: self.value + 1,
-            })
-        }
+        self.value.checked_add(1).map(Ipv4::new)
     }
 
     fn previous(&self) -> Option<Self> {
-        if self.value == 0 {
-            None
-        } else {
-            Some(Ipv4 {
-                value: self.value - 1,
-            })
-        }
+        self.value.checked_sub(1).map(Ipv4::new)
     }
 
     ghost inside = { λ a. a.fits };
+
+    ghost equal_by_place = { λ a b. refl };
+
+    ghost ordered_by_place = { λ a b. refl };
 }
 
 impl Address for Ipv4 {
     ghost text = { λ a. text4 a.value };
 
     fn read_text(bytes: &[u8]) -> Option<Self> {
-        let Some(a) = read_dotted(bytes) else {
-            return None;
-        };
-        let Some(b) = read_dotted(a.rest) else {
-            return None;
-        };
-        let Some(c) = read_dotted(b.rest) else {
-            return None;
-        };
-        let Some(d) = read_number(c.rest, 255) else {
-            return None;
-        };
-        Some(Ipv4::new(a.number * 16777216 + b.number * 65536 + c.number * 256 + d))
+        let (a, rest) = read_dotted(bytes)?;
+        let (b, rest) = read_dotted(rest)?;
+        let (c, rest) = read_dotted(rest)?;
+        let d = read_byte(rest)?;
+        Some(Ipv4::from(u32::from_be_bytes([a, b, c, d])))
     }
 
-    fn write_text(&self, out: &mut [u8], at: usize) -> usize {
-        let value = self.value as usize;
-        let b = write_dotted(value / 16777216, out, at);
-        let c = write_dotted(value / 65536 % 256, out, b);
-        let d = write_dotted(value / 256 % 256, out, c);
-        write_number(value % 256, out, d)
+    fn write_text<S: Sink>(&self, sink: &mut S) {
+        let [a, b, c, d] = self.value.to_be_bytes();
+        write_dotted(a, sink);
+        write_dotted(b, sink);
+        write_dotted(c, sink);
+        put_number(usize::from(d), sink);
     }
 
     ghost layout = { layout4 };
@@ -113,22 +106,17 @@ impl Address for Ipv4 {
     }
 
     fn read_header(bytes: &[u8]) -> Option<Header<Self>> {
-        let [first, ..] = bytes else {
-            return None;
-        };
-        let end = (*first % 16) as usize * 4;
-        if !<Ipv4 as Address>::begins(*first) {
-            return None;
-        }
-        if bytes.len() < end {
+        let first = *bytes.first()?;
+        let end = usize::from(first % 16) * 4;
+        if !Self::begins(first) || bytes.len() < end {
             return None;
         }
         Some(Header {
-            source: Ipv4::new(read_u32(bytes, 12)),
-            destination: Ipv4::new(read_u32(bytes, 16)),
+            source: Ipv4::from(u32::from_be_bytes(bytes_at(bytes, 12))),
+            destination: Ipv4::from(u32::from_be_bytes(bytes_at(bytes, 16))),
             protocol: bytes[9],
             end,
-            later: read_u16(bytes, 6) % 8192 > 0,
+            later: u16::from_be_bytes(bytes_at(bytes, 6)) % 8192 > 0,
         })
     }
 

@@ -4,11 +4,13 @@ use Rattle.text.proofs.Decimals.{decimal_lacks}
 use Rattle.text.proofs.Cutting.{same_cut, no_cut}
 use Rattle.address.proofs.dotted.read_dotted.Goals as goal
 
-pub returns-in-None : goal.returns-in-None
-returns-in-None c n rest h e = no_cut 46 c.args.bytes.now (decimal n) rest c.in-None.ensures e
+pub returns-in_err-parted : goal.returns-in_err-parted
+returns-in_err-parted c = rw c.from_residual.ensures (λ n rest h e. no_cut 46 c.args.bytes.now (decimal n) rest c.in_err-parted.ensures e)
 
-pub returns-in-None-read_number : goal.returns-in-None-read_number
-returns-in-None-read_number c n rest h e =
-    let k = c.in-Some.ensures in
-    let s = same_cut 46 (decimal n) c.in-Some.parted.front.now rest c.in-Some.parted.rest.now (decimal_lacks 46 n (omega arith) (omega arith)) k.first (e ∙ k.whole) in
-    c.in-None-read_number.ensures n h s.0
+pub returns-in_err-read_byte : goal.returns-in_err-read_byte
+returns-in_err-read_byte c =
+    let k = c.in_ok-parted.ensures in
+    let front = c.in_ok-parted.parted.front.now in
+    let back = c.in_ok-parted.parted.rest.now in
+    rw c.from_residual-in_err-read_byte.ensures
+    (λ n rest h e. let s = same_cut 46 (decimal n) front rest back (decimal_lacks 46 n (omega arith) (omega arith)) k.first (e ∙ k.whole) in c.in_err-read_byte.ensures n h s.0)
