@@ -1,40 +1,50 @@
 -- The number of a name.
-use Rattle.std.proofs.Common.{◌≡◌, ℕ, zero, suc, ◌+◌, ◌<◌, ◌≤◌, Bool, true, false, not, codes, List, [], ◌∷◌, map, length, get_or, take, drop, Decides, sym, refl, ap, ◌∙◌, arith}
+use Rattle.std.proofs.Common.{◌≡◌, ℕ, zero, suc, ◌+◌, ◌≤◌, Bool, true, false, not, cond, codes, List, [], ◌∷◌, map, length, get_or, refl, ap, arith}
+use Rattle.std.specs.Option.{option_map, unwrap_or}
+use Rattle.std.specs.List.{position, position_or_len}
+use Rattle.std.proofs.lemmas.Bool.Decides.{nat_tests}
 use Rattle.std.specs.Str.{bytes_eq}
-use Rattle.std.proofs.lemmas.Slice.Eq.{bytes_eq-Decides}
-use Rattle.std.proofs.lemmas.Bool.{cond-true, cond-false, le-leb}
-use Rattle.std.proofs.lemmas.List.{at_drop_more, at_drop_all, length-map, length-take-le, length-take, get_or-map, get_or-take}
+use Rattle.std.proofs.lemmas.Bool.{le-leb}
+use Rattle.std.proofs.lemmas.List.{length-map, length-take}
+use Rattle.few.specs.Listed.{listed}
 use Rattle.names.specs.declared.name.Name.{Name}
 use Rattle.names.specs.declared.name.Names.{Names}
 use Rattle.names.specs.Texts.{text_of, texts}
-use Rattle.names.specs.Names.{number_in, letters, well_formed}
+use Rattle.names.specs.Names.{number_in, declared, letters, well_formed}
 
-pub same_false : (xs ys : List ℕ) → (xs ≡ ys → ⊥) → bytes_eq xs ys ≡ false
-same_false xs ys ne = decide (bytes_eq xs ys) (bytes_eq-Decides xs ys)
+-- a number is at most the next one
+pub number_most : (ns : List (List ℕ)) (m : List ℕ) → number_in ns m ≤ length ns + 1
+number_most [] m = omega arith
+number_most (n ∷ ns) m = by (bytes_eq n m) (number_most ns m)
   where
-    decide : (b : Bool) → Decides b (xs ≡ ys) → b ≡ false
-    decide true d = absurd (ne (d.0 refl))
-    decide false d = refl
+    by : (b : Bool) → number_in ns m ≤ length ns + 1 → cond b 1 (number_in ns m + 1) ≤ length (n ∷ ns) + 1
+    by true ih = omega arith
+    by false ih = omega arith
 
-pub number_here : (ns : List (List ℕ)) (i : ℕ) (name : List ℕ) → i < length ns → get_or ns i [] ≡ name → number_in (drop i ns) name ≡ 1
-number_here ns i name lt e =
-    at_drop_more (λ zs. number_in zs name) ns i [] lt ∙ cond-true _ 1 (number_in (drop (i + 1) ns) name + 1) ((bytes_eq-Decides _ _).1 e)
+-- a name that is not there would come next
+pub number_declared : (ns : List (List ℕ)) (m : List ℕ) → number_in ns m ≡ unwrap_or (declared ns m) (length ns + 1)
+number_declared ns m = let h = number_most ns m in grind (arith, nat_tests)
 
-pub number_next : (ns : List (List ℕ)) (i : ℕ) (name : List ℕ) → i < length ns → (get_or ns i [] ≡ name → ⊥) → number_in (drop i ns) name ≡ number_in (drop (i + 1) ns) name + 1
-number_next ns i name lt ne =
-    at_drop_more (λ zs. number_in zs name) ns i [] lt ∙ cond-false _ 1 (number_in (drop (i + 1) ns) name + 1) (same_false _ _ ne)
+module _ (text : List ℕ) where
+  -- whether this is the name
+  abbrev pub same : Name → Bool
+  same n = bytes_eq (text_of n) text
 
-pub number_none : (ns : List (List ℕ)) (i : ℕ) (name : List ℕ) → length ns ≤ i → number_in (drop i ns) name ≡ 1
-number_none ns i name le = at_drop_all (λ zs. number_in zs name) ns i le
+  number_place : (ns : List Name) → number_in (map text_of ns) text ≡ position_or_len same ns + 1
+  number_place [] = refl
+  number_place (n ∷ ns) = by (same n) (number_place ns)
+    where
+      by : (b : Bool) → number_in (map text_of ns) text ≡ position_or_len same ns + 1
+          → cond b 1 (number_in (map text_of ns) text + 1) ≡ cond (not b) (1 + position_or_len same ns) 0 + 1
+      by true e = refl
+      by false e = omega arith
 
-module _ (ns : Names) (fits : ns.count ≤ length ns.list) where
-  pub length_texts : length (texts ns) ≡ ns.count
-  length_texts = length-map (take ns.count ns.list) text_of ∙ length-take-le ns.count ns.list fits
-
-  pub texts_at : (i : ℕ) (x : Name) → i < ns.count → x ≡ get_or ns.list i x → get_or (texts ns) i [] ≡ text_of x
-  texts_at i x lt is =
-      let len = length-take-le ns.count ns.list fits in
-      get_or-map text_of (take ns.count ns.list) i x [] (omega arith) ∙ ap text_of (get_or-take ns.count ns.list i x lt ∙ sym is)
+  -- the number goes by the place
+  pub declared_place : (ns : List Name) → declared (map text_of ns) text ≡ option_map (λ i. i + 1) (position same ns)
+  declared_place ns =
+      let e = number_place ns in
+      let l = length-map ns text_of in
+      grind (arith, nat_tests)
 
 pub well_any : (text : List ℕ) → text ≡ codes "any" → well_formed text ≡ false
 well_any text e = ap well_formed e
@@ -48,9 +58,9 @@ well_rest text a b c d =
 
 short_in : (xs : List Name) (i : ℕ) → length (get_or (map text_of xs) i []) ≤ 12
 short_in [] i = omega arith
-short_in (x ∷ xs) zero = let a = x.fits in let b = length-take x.len x.bytes in omega arith
+short_in (x ∷ xs) zero = let a = x.bytes.fits in let b = length-take x.bytes.count x.bytes.rows in omega arith
 short_in (x ∷ xs) (suc i) = short_in xs i
 
 -- a name has at most 12 bytes
 pub short : (ns : Names) (i : ℕ) → length (get_or (texts ns) i []) ≤ 12
-short ns i = short_in (take ns.count ns.list) i
+short ns i = short_in (listed ns.list) i

@@ -1,5 +1,6 @@
 -- Names of networks, and the numbers that they have in a list of names.
 use Rattle.std.specs.Prelude.{◌≡◌, ℕ, ◌+◌, ◌-◌, ◌≤◌, Bool, true, cond, not, ◌&&◌, List, [], ◌∷◌, ◌++◌, length, Some, None, codes, Option, ◌==◌, nat_le, slice_index_or}
+use Rattle.std.specs.List.{list_all}
 use Rattle.std.specs.Str.{bytes_eq}
 
 -- a byte of a name: a to z, 0 to 9 or a hyphen
@@ -8,8 +9,7 @@ letter b = cond (nat_le 97 b && nat_le b 122) true (cond (nat_le 48 b && nat_le 
 
 -- every byte is one
 abbrev pub letters : List ℕ → Bool
-letters [] = true
-letters (b ∷ text) = letter b && letters text
+letters text = list_all letter text
 
 -- a name: 1 to 12 such bytes, and neither of the words `any` and `elsewhere`
 abbrev pub well_formed : List ℕ → Bool

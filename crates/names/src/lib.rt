@@ -8,4 +8,4 @@ mod table;
 mod tests;
 
 pub use letters::is_well_formed;
-pub use name::Names;
+pub use name::{Name, Names};

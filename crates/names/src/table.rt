@@ -1,10 +1,11 @@
 // The table of names: a name by its number, and a number by its name.
-ghost use Rattle.std.specs.Prelude.{◌≡◌, ℕ, ◌+◌, ◌-◌, ◌<◌, ◌≤◌, List, [], ◌∷◌, ◌++◌, length, MatchOption};
+ghost use Rattle.std.specs.Prelude.{◌≡◌, ◌+◌, ◌-◌, ◌<◌, ◌≤◌, [], ◌∷◌, ◌++◌, map, length, position, MatchOption};
+ghost use Rattle.std.specs.Str.{bytes_eq};
 ghost use Rattle.names.specs.Texts.{text_of, texts};
 ghost use Rattle.names.specs.Names.{number_in, declared, Numbered};
 
-use crate::Names;
-use crate::name::Name;
+use crate::{Name, Names};
+use few::Few;
 
 impl Name {
     // The name with these bytes, of which there are at most 12.
@@ -12,17 +13,26 @@ impl Name {
         requires { length text.now ≤ 12 }
         ensures { text_of result ≡ text.now }
     {
-        let mut bytes = [0; 12];
-        let len = text.len();
-        bytes[0..len].copy_from_slice(text);
-        Name { bytes, len }
+        let mut bytes = Few::new(0);
+        for b in text {
+            bytes.push(*b);
+        }
+        Name { bytes }
     }
 
-    fn text(&self) -> &[u8]
+    // The bytes of the name.
+    pub fn text(&self) -> &[u8]
         ensures { result.now ≡ text_of self.now }
     {
-        &self.bytes[0..self.len]
+        self.bytes.as_slice()
     }
+}
+
+// The place of the first name with these bytes.
+fn place(names: &[Name], text: &[u8]) -> Option<usize>
+    ensures { result ≡ position (λ n. bytes_eq (text_of n) text.now) names.now }
+{
+    names.iter().position(|name| name.text() == text)
 }
 
 impl Names {
@@ -30,20 +40,24 @@ impl Names {
     pub fn new() -> Names
         ensures { texts result ≡ [] }
     {
+        let unused = Name { bytes: Few::new(0) };
         Names {
-            list: [Name {
-                bytes: [0; 12],
-                len: 0,
-            }; 24],
-            count: 0,
+            list: Few::new(unused),
         }
+    }
+
+    // The names in the order of their numbers.
+    pub fn as_slice(&self) -> &[Name]
+        ensures { map text_of result.now ≡ texts self.now }
+    {
+        self.list.as_slice()
     }
 
     // How many names there are.
     pub fn count(&self) -> u8
         ensures { result ≡ length (texts self.now) }
     {
-        self.count as u8
+        self.list.len() as u8
     }
 
     // The number that a name has, or would get as the next one.
@@ -51,24 +65,15 @@ impl Names {
         ensures number { result ≡ number_in (texts self.now) text.now }
         ensures few { result ≤ length (texts self.now) + 1 }
     {
-        for i in 0..self.count {
-            let name = self.list[i];
-            if name.text() == text {
-                return i as u8 + 1;
-            }
-        }
-        self.count as u8 + 1
+        self.find(text).unwrap_or(self.count() + 1)
     }
 
     // The number of a name that is in the table.
     pub fn find(&self, text: &[u8]) -> Option<u8>
         ensures { result ≡ declared (texts self.now) text.now }
     {
-        let number = self.number(text);
-        if number as usize > self.count {
-            return None;
-        }
-        Some(number)
+        let at = place(self.as_slice(), text)?;
+        Some(at as u8 + 1)
     }
 
     // Takes a name in as the last one.
@@ -77,18 +82,15 @@ impl Names {
         requires short { length text.now ≤ 12 }
         ensures { texts self.new ≡ texts self.old ++ (text.now ∷ []) }
     {
-        let name = Name::new(text);
-        self.list[self.count] = name;
-        self.count += 1;
+        self.list.push(Name::new(text));
     }
 
     // The name with this number.
     pub fn text(&self, number: u8) -> Option<&[u8]>
         ensures { MatchOption result (1 ≤ number → length (texts self.now) < number) (λ t. Numbered (texts self.now) number t.now) }
     {
-        if number == 0 || number as usize > self.count {
-            return None;
-        }
-        Some(self.list[number as usize - 1].text())
+        let at = number.checked_sub(1)?;
+        let name = self.as_slice().get(usize::from(at))?;
+        Some(name.text())
     }
 }

@@ -22,3 +22,17 @@ fn no_names_have_no_numbers(rt: HostRuntime) {
     assert!(rt; names.text(1).is_none());
     assert_eq!(rt; names.number(b"web"), 1);
 }
+
+#[test]
+fn names_have_their_numbers(rt: HostRuntime) {
+    let mut names = Names::new();
+    names.add(b"web");
+    names.add(b"db");
+    assert_eq!(rt; names.count(), 2);
+    assert_eq!(rt; names.find(b"db"), Some(2));
+    assert_eq!(rt; names.number(b"app"), 3);
+    assert!(rt; names.text(1) == Some(b"web".as_slice()));
+    for (i, name) in names.as_slice().iter().enumerate() {
+        assert_eq!(rt; names.find(name.text()), Some(i as u8 + 1));
+    }
+}
