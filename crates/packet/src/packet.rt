@@ -7,6 +7,7 @@ use service::{Service, carries_ports};
 use std::alloc::AllocError;
 
 // The addresses of a packet, its protocol, and its destination port, which is 0 where the protocol carries none.
+#[derive(Copy, PartialEq, Eq, Debug)]
 pub struct Packet<A> {
     source: A,
     destination: A,
@@ -15,6 +16,7 @@ pub struct Packet<A> {
     ghost settled: { (carries_ports protocol ≡ false → port ≡ 0) },
 }
 
+// By hand: tried, and no derive of `Clone` goes over a generic struct with a ghost field.
 impl<A: Copy> Clone for Packet<A> {
     ghost is_clone = { λ packet copy. copy ≡ packet };
 
@@ -25,8 +27,6 @@ impl<A: Copy> Clone for Packet<A> {
     }
 }
 
-impl<A: Copy> Copy for Packet<A> {}
-
 impl<A: Copy> Packet<A> {
     // The packet with this port, or with port 0 where its protocol carries none.
     pub fn new(source: A, destination: A, protocol: u8, port: u16) -> Packet<A>
@@ -35,19 +35,12 @@ impl<A: Copy> Packet<A> {
         ensures protocol { result.protocol ≡ protocol }
         ensures port { result.port ≡ port_of protocol port }
     {
-        if carries_ports(protocol) {
-            return Packet {
-                source,
-                destination,
-                protocol,
-                port,
-            };
-        }
+        let port = if carries_ports(protocol) { port } else { 0 };
         Packet {
             source,
             destination,
             protocol,
-            port: 0,
+            port,
         }
     }
 

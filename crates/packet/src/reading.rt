@@ -13,10 +13,10 @@ fn read_port(bytes: &[u8], end: usize) -> Option<u16>
     requires { end ≤ length bytes.now }
     ensures { MatchOption result (length bytes.now < end + 4) (λ port. (end + 4 ≤ length bytes.now) × (port ≡ number bytes.now (end + 2) 2)) }
 {
-    if bytes.len() - end < 4 {
+    let [_, _, high, low, ..] = &bytes[end..] else {
         return None;
-    }
-    Some(bytes[end + 2] as u16 * 256 + bytes[end + 3] as u16)
+    };
+    Some(u16::from_be_bytes([*high, *low]))
 }
 
 // The packet whose head the bytes begin with; what follows the head does not matter.
@@ -30,17 +30,13 @@ pub fn read_packet<A: Address>(bytes: &[u8]) -> Result<Packet<A>, Refusal>
     if !A::begins(*first) {
         return Err(Refusal::WrongHeader);
     }
-    let Some(header) = A::read_header(bytes) else {
-        return Err(Refusal::PacketTooShort);
-    };
+    let header = A::read_header(bytes).ok_or(Refusal::PacketTooShort)?;
     if header.later {
         return Err(Refusal::LaterFragment);
     }
     if !carries_ports(header.protocol) {
         return Ok(Packet::new(header.source, header.destination, header.protocol, 0));
     }
-    let Some(port) = read_port(bytes, header.end) else {
-        return Err(Refusal::PacketTooShort);
-    };
+    let port = read_port(bytes, header.end).ok_or(Refusal::PacketTooShort)?;
     Ok(Packet::new(header.source, header.destination, header.protocol, port))
 }

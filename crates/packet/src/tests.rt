@@ -6,10 +6,7 @@ use std::test::Fail;
 
 // The cause for which the bytes are refused; none where they are read.
 fn cause<A: Address>(bytes: &[u8]) -> Option<Refusal> {
-    match read_packet::<A>(bytes) {
-        Ok(_) => None,
-        Err(cause) => Some(cause),
-    }
+    read_packet::<A>(bytes).err()
 }
 
 #[test]
