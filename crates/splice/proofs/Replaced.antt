@@ -1,21 +1,21 @@
 -- Values put in the place of others in a list.
-use Rattle.std.proofs.Common.{◌≡◌, ℕ, ◌+◌, ◌-◌, ◌<◌, ◌≤◌, List, ◌++◌, length, get_or, take, drop, ap, ◌∙◌, arith, rules}
+use Rattle.std.specs.List.{SameBelow, SameFrom, CopiedTo}
+use Rattle.std.proofs.Common.{◌≡◌, ℕ, ◌+◌, ◌-◌, ◌<◌, ◌≤◌, List, ◌++◌, length, take, drop, ap, ◌∙◌, arith, rules}
 use Rattle.std.proofs.lemmas.List.{same_lists, places, append_assoc}
 
 module _ {X : Type 0} (old moved : List X) (count from to tail end : ℕ) (same : length moved ≡ length old)
     (a : from ≤ to) (b : to ≤ count) (c : count ≤ length old) (d : from ≤ tail) (e : end ≡ tail + (count - to)) (f : end ≤ length old)
-    (kept : (k : ℕ) (z : X) → k < to → k < tail → get_or moved k z ≡ get_or old k z)
-    (shift : (k : ℕ) (z : X) → tail + k < end → get_or moved (tail + k) z ≡ get_or old (to + k) z) where
+    (kept : SameBelow old moved tail) (shift : CopiedTo old moved to tail (count - to)) where
   front : take from moved ≡ take from (take count old)
   front = same_lists _ _ (search (rules, places)) (λ k z h.
       let lt : k < from = grind (arith, places) in
-      let s = kept k z (omega arith) (omega arith) in
+      let s = kept k z (omega arith) in
       grind (arith, places))
 
   back : take (count - to) (drop tail moved) ≡ drop to (take count old)
   back = same_lists _ _ (search (rules, places)) (λ k z h.
       let lt : k < count - to = grind (arith, places) in
-      let s = shift k z (omega arith) in
+      let s = shift (tail + k) z (omega arith) (omega arith) in
       grind (arith, places))
 
   -- the rows after the three writes
@@ -39,8 +39,7 @@ module _ {X : Type 0} (old moved : List X) (count from to tail end : ℕ) (same 
       split n vs k t h = same_lists _ _ (search (rules, places)) (λ i z lt. grind (arith, places))
 
 -- lists of one length that agree from n on end alike
-pub rest_same : {X : Type 0} (old moved : List X) (n : ℕ) → length moved ≡ length old → ((k : ℕ) (z : X) → n ≤ k → get_or moved k z ≡ get_or old k z)
-    → drop n moved ≡ drop n old
+pub rest_same : {X : Type 0} (old moved : List X) (n : ℕ) → length moved ≡ length old → SameFrom old moved n → drop n moved ≡ drop n old
 rest_same old moved n same agree = same_lists _ _ (search (rules, places)) (λ k z h.
     let s = agree (n + k) z (omega arith) in
     grind (arith, places))

@@ -39,19 +39,19 @@ pub record Follows {P L : Type 0} (place : P → ℕ) (size : ℕ) (f : ℕ → 
   pub keeps : (x : ℕ) → high < x → x ≤ place s.end → f x ≡ l
   pub reaches : high ≤ place s.end
 
--- the runs that a change brings in
-abbrev pub news : {P L : Type 0} → Change P L → List (Run P L)
-news c = listed c.before ++ (c.run ∷ listed c.after)
+-- what a change brings in
+abbrev pub news : {X : Type 0} → Change X → List X
+news c = listed c.before ++ (c.middle ∷ listed c.after)
 
--- the rows after a change
-abbrev pub changed : {P L : Type 0} → Change P L → List (Run P L) → List (Run P L)
+-- the list after a change
+abbrev pub changed : {X : Type 0} → Change X → List X → List X
 changed c rows = take c.from rows ++ (news c ++ drop c.to rows)
 
--- how many rows the first `count` are after a change
-abbrev pub count_after : {P L : Type 0} → Change P L → ℕ → ℕ
+-- how many items the first `count` are after a change
+abbrev pub count_after : {X : Type 0} → Change X → ℕ → ℕ
 count_after c count = c.from + length (news c) + (count - c.to)
 
--- the change is one of the first `count` rows
-pub record Apt {P L : Type 0} (count : ℕ) (c : Change P L) : Type 0 where
+-- the change is one of the first `count` items
+pub record Apt {X : Type 0} (count : ℕ) (c : Change X) : Type 0 where
   pub ordered : c.from < c.to
   pub within : c.to ≤ count

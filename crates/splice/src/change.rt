@@ -1,4 +1,4 @@
-// A change of a line, and its two sides.
+// A change of a list, and the two sides of a new run in a line.
 use line::Run;
 
 // One side of a new run: the rows that stay end or begin at `cut`, what is left of the run that is cut, and the new run's own end.
@@ -9,12 +9,12 @@ pub(crate) struct Side<P, L> {
     pub(crate) end: P,
 }
 
-// A change: `run`, with what may come before and after it, in the place of the rows from `from` to `to`.
+// A change: `middle`, with what may come before and after it, in the place of the items from `from` to `to`.
 #[derive(Clone, Copy)]
-pub struct Change<P, L> {
+pub struct Change<T> {
     pub(crate) from: usize,
     pub(crate) to: usize,
-    pub(crate) before: Option<Run<P, L>>,
-    pub(crate) run: Run<P, L>,
-    pub(crate) after: Option<Run<P, L>>,
+    pub(crate) before: Option<T>,
+    pub(crate) middle: T,
+    pub(crate) after: Option<T>,
 }

@@ -6,5 +6,4 @@ mod rows;
 mod sides;
 
 pub use change::Change;
-pub use rows::{apply, has_room};
 pub use sides::change_of;
