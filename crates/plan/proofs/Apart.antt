@@ -4,7 +4,7 @@ use Rattle.std.proofs.lemmas.List.{append-nil, append_assoc}
 use Rattle.std.proofs.lemmas.Bool.{leb-true, leb-false}
 use Rattle.names.specs.Names.{number_in, with_name}
 use Rattle.plan.specs.Declarations.{Declaration, names_after, names_of}
-use Rattle.plan.proofs.Snoc.{number_most}
+use Rattle.names.proofs.Numbers.{number_most}
 
 -- after ns each of `more` is new in its turn
 abbrev pub Apart : List (List ℕ) → List (List ℕ) → Type 0

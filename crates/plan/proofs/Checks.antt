@@ -1,5 +1,5 @@
 -- The checks before those of the addresses.
-use Rattle.std.proofs.Common.{◌≡◌, ℕ, ◌≤◌, Bool, true, false, ltb, List, Some, None, sym, refl, subst, arith, ltb-false, ltb-true}
+use Rattle.std.proofs.Common.{◌≡◌, ℕ, Bool, true, false, ltb, List, Some, None, sym, subst, arith, ltb-false, ltb-true}
 use Rattle.refusal.specs.declared.refusal.Refusal.{Refusal}
 use Rattle.refusal.specs.declared.refusal.Refusal.TheVariants.{RangeReversed, FieldMalformed, TooManyNames}
 use Rattle.names.specs.Names.{number_in, well_formed}
@@ -25,10 +25,3 @@ module _ (ds : List Declaration) (d : Declaration) (n : ℕ) (is : n ≡ number_
   none_sane true true k a b c h = let z : ◌≡◌ {A = ℕ} 0 1 = cc in absurd (omega arith)
   none_sane true false true a b c h = let z : ◌≡◌ {A = ℕ} 0 1 = cc in absurd (omega arith)
   none_sane true false false a b c h = let few = ltb-false 24 n (sym c) in record { formed = sym a; ordered = ltb-false _ _ (sym b); few = omega arith }
-
--- without a plan's declarations: the name is well formed, the range goes up and the number is one of the first 24
-pub none_passes : (f r k : Bool) (high low n : ℕ) → r ≡ ltb high low → k ≡ ltb 24 n → None ≡ first_cause f r k → (f ≡ true) × (low ≤ high) × (n ≤ 24)
-none_passes false r k high low n b c h = let z : ◌≡◌ {A = ℕ} 0 1 = cc in absurd (omega arith)
-none_passes true true k high low n b c h = let z : ◌≡◌ {A = ℕ} 0 1 = cc in absurd (omega arith)
-none_passes true false true high low n b c h = let z : ◌≡◌ {A = ℕ} 0 1 = cc in absurd (omega arith)
-none_passes true false false high low n b c h = (refl, ltb-false _ _ (sym b), ltb-false 24 n (sym c))

@@ -6,7 +6,7 @@ use Rattle.line.specs.declared.run.Run.{Run}
 use Rattle.line.specs.Line.{Keeps, Joined, Line}
 use Rattle.line.proofs.Lines.{joined_le, order}
 use Rattle.line.proofs.Rows.{row_keeps}
-use Rattle.line.specs.Search.{Spans}
+use Rattle.line.specs.Search.{Spans, Sought}
 use Rattle.splice.specs.Changes.{Spot, changed, news, count_after, Apt}
 use Rattle.plan.specs.Accepted.{Free, Meets, Fills, Remains}
 use Rattle.splice.proofs.Turns.{turn_after}
@@ -118,8 +118,32 @@ module _ {P : Type 0} (place : P → ℕ) (size : ℕ) (f : ℕ → ℕ) (runs :
     other = λ d s. let z = ap (λ (w : Run P ℕ). w.label) (read d) in omega arith;
   }
 
+-- the run at `at`, read as r, holds the place low
+module _ {P : Type 0} (place : P → ℕ) (size : ℕ) (f : ℕ → ℕ) (runs : List (Run P ℕ)) (at low high : ℕ) (sought : Sought place size runs low at)
+    (r : Run P ℕ) (is : r ≡ get_or runs at r) (line : Line place size f runs) (ordered : low ≤ high) where
+  here : get_or runs at r ≡ r
+  here = sym is
+
+  begins : place r.low ≤ low
+  begins = let h = sought.holds line.joined r in let e = ap (λ (w : Run P ℕ). place w.low) here in let a = h.from in omega arith
+
+  reaches : low ≤ place r.high
+  reaches = let h = sought.holds line.joined r in let e = ap (λ (w : Run P ℕ). place w.high) here in let b = h.to in omega arith
+
+  pub taken_here : (r.label ≡ 0 → ⊥) → Meets f low high
+  taken_here ne = meets_low place size f runs at low high r here line sought.within begins reaches ordered ne
+
+  pub taken_next : r.label ≡ 0 → place r.high < high → high < size → Meets f low high
+  taken_next e a b = meets_next place size f runs at low high r here line sought.within e reaches a b
+
+  pub free_here : r.label ≡ 0 → high ≤ place r.high → Free f low high
+  free_here e ends = all_free place size f runs at low high r here line sought.within e begins ends
+
+  pub spot_here : (l : ℕ) → r.label ≡ 0 → high ≤ place r.high → 0 < l → Spot place size f runs at low high l
+  spot_here l e ends pos = make_spot place size f runs at r sought.within is low high l line ordered begins ends e pos
+
 -- a change leaves as many rows as its line needs
-pub length_changed : {P L : Type 0} (c : Change P L) (runs : List (Run P L)) → Apt (length runs) c → length (changed c runs) ≡ count_after c (length runs)
+pub length_changed : {X : Type 0} (c : Change X) (runs : List X) → Apt (length runs) c → length (changed c runs) ≡ count_after c (length runs)
 length_changed c runs apt =
     let a = apt.ordered in
     let b = apt.within in

@@ -7,6 +7,7 @@ use Rattle.std.proofs.lemmas.Slice.Eq.{bytes_eq-Decides}
 use Rattle.std.proofs.lemmas.Bool.{and_parts, leb-true}
 use Rattle.line.specs.Line.{over}
 use Rattle.names.specs.Names.{number_in, with_name}
+use Rattle.names.proofs.Numbers.{number_most}
 use Rattle.plan.specs.Declarations.{Declaration, names_after, names_of, network_in, network_of}
 
 pub number_positive : (ns : List (List ℕ)) (m : List ℕ) → 1 ≤ number_in ns m
@@ -16,14 +17,6 @@ number_positive (n ∷ ns) m = by (bytes_eq n m)
     by : (b : Bool) → 1 ≤ cond b 1 (number_in ns m + 1)
     by true = omega arith
     by false = omega arith
-
-pub number_most : (ns : List (List ℕ)) (m : List ℕ) → number_in ns m ≤ length ns + 1
-number_most [] m = omega arith
-number_most (n ∷ ns) m = by (bytes_eq n m) (number_most ns m)
-  where
-    by : (b : Bool) → number_in ns m ≤ length ns + 1 → cond b 1 (number_in ns m + 1) ≤ length (n ∷ ns) + 1
-    by true ih = omega arith
-    by false ih = omega arith
 
 number_front : (ns ms : List (List ℕ)) (m : List ℕ) → number_in ns m ≤ length ns → number_in (ns ++ ms) m ≡ number_in ns m
 number_front [] ms m h = absurd (omega arith)

@@ -21,7 +21,7 @@ TellsFill place size runs at low high r =
     (f : ℕ → ℕ) (l : ℕ) → Spot place size f runs at low high l → HoldsAt (λ w. w.label ≡ 0) runs at → MatchBool r (Fills size f low high) (Remains size f low high)
 
 -- what fitting the label l from low to high into a line answers: the change that makes the new line, or the first cause against it
-abbrev pub Fitted : {P : Type 0} → (P → ℕ) → ℕ → List (Run P ℕ) → ℕ → ℕ → ℕ → ℕ → Result (Change P ℕ) Refusal → Type 0
+abbrev pub Fitted : {P : Type 0} → (P → ℕ) → ℕ → List (Run P ℕ) → ℕ → ℕ → ℕ → ℕ → Result (Change (Run P ℕ)) Refusal → Type 0
 Fitted place size runs rows low high l r =
     (f : ℕ → ℕ) → Line place size f runs
     → MatchResult r (λ c. Free f low high × Remains size f low high × Line place size (over f low high l) (changed c runs)) (Unfit size f low high l rows)

@@ -1,5 +1,7 @@
 // Declaring a range of addresses: all checks first, and then an edit that cannot fail.
-ghost use Rattle.std.specs.Prelude.{◌≡◌, ◌≤◌, length, take, drop, Err, MatchResult};
+ghost use Rattle.std.specs.Prelude.{◌≡◌, ◌≤◌, length, take, drop, Err, MatchResult, nat_lt};
+ghost use Rattle.std.specs.Result.{result_err};
+ghost use Rattle.names.specs.Names.{well_formed};
 ghost use Rattle.std.specs.List.{AllByRecursion};
 ghost use Rattle.refusal.specs.declared.refusal.Refusal.TheVariants as cause;
 ghost use Rattle.splice.specs.Changes.{changed, count_after, Apt};
@@ -12,26 +14,26 @@ use crate::plan::Edit;
 use line::{Point, Run, fill};
 use names::is_well_formed;
 use refusal::Refusal;
-use splice::{Change, apply};
+use splice::Change;
 
-// The first of the checks before the addresses that fails: of the name, of the range's order, of the number of names.
-fn first_cause(formed: bool, reversed: bool, crowded: bool) -> Option<Refusal>
-    ensures { result ≡ first_cause formed reversed crowded }
+// Refuses a declaration by the first of the checks before the addresses that fails: of the name, of the range's order, of the number of names.
+fn check_sane<A: Point>(name: &[u8], new: &Run<A, u8>) -> Result<(), Refusal>
+    ensures { result_err result ≡ first_cause (well_formed name.now) (nat_lt (A.Point.place new.now.high) (A.Point.place new.now.low)) (nat_lt 24 new.now.label) }
 {
-    if !formed {
-        return Some(Refusal::FieldMalformed);
+    if !is_well_formed(name) {
+        return Err(Refusal::FieldMalformed);
     }
-    if reversed {
-        return Some(Refusal::RangeReversed);
+    if new.high < new.low {
+        return Err(Refusal::RangeReversed);
     }
-    if crowded {
-        return Some(Refusal::TooManyNames);
+    if new.label > 24 {
+        return Err(Refusal::TooManyNames);
     }
-    None
+    Ok(())
 }
 
 // Makes a change in the first `old` rows, and says how many they are then. Only the rows that it frees are blanked: those after them are blank already.
-fn change_rows<A: Point>(rows: &mut [Run<A, u8>], old: usize, change: &Change<A, u8>) -> usize
+fn change_rows<A: Point>(rows: &mut [Run<A, u8>], old: usize, change: &Change<Run<A, u8>>) -> usize
     requires apt { Apt old change.now }
     requires fits { old ≤ length rows.old }
     requires room { count_after change.now old ≤ length rows.old }
@@ -39,40 +41,34 @@ fn change_rows<A: Point>(rows: &mut [Run<A, u8>], old: usize, change: &Change<A,
     ensures list { take result rows.new ≡ changed change.now (take old rows.old) }
     ensures blank { AllByRecursion (Blank A.Point.place) (drop old rows.old) → AllByRecursion (Blank A.Point.place) (drop result rows.new) }
 {
-    let count = apply(rows, old, change);
+    let count = change.apply(rows, old);
     if count < old {
-        let first = A::first();
-        fill(
-            &mut rows[count..old],
-            Run {
-                low: first,
-                high: first,
-                label: 0,
-            },
-        );
+        fill(&mut rows[count..old], Run::blank(0));
     }
     count
 }
 
+// The clauses `shut`, `long` and `lent` stand in full at each function: each is one equality, and a word for it would be no plainer.
 impl<'a, A: Point> Plan<'a, A> {
     // The edit that a declaration makes, or why it is refused.
+    // It takes `low` and `high`, and no run: the run has the network's number too, which `judge` itself finds once the plan is known to be open.
     fn judge(&self, name: &[u8], low: A, high: A) -> Result<Edit<A>, Refusal>
         ensures shut { Shut self.now → result ≡ Err cause.Shut }
         ensures safe { MatchResult result (Safe self.now name.now) (λ _. 0 ≤ 0) }
         ensures judged { Judges A.Point.place A.Point.size self.now (declaration A.Point.place name.now low high) result }
     {
-        let runs = self.runs();
-        if runs.is_empty() {
+        if self.is_shut() {
             return Err(Refusal::Shut);
         }
         let number = self.names.number(name);
-        if let Some(cause) = first_cause(is_well_formed(name), high.before(&low), number > 24) {
-            return Err(cause);
-        }
-        match fit(runs, self.rows.len(), low, high, number) {
-            Ok(change) => Ok(Edit { number, change }),
-            Err(e) => Err(e),
-        }
+        let new = Run {
+            low,
+            high,
+            label: number,
+        };
+        check_sane(name, &new)?;
+        let change = fit(self.runs(), self.rows.len(), &new)?;
+        Ok(Edit { number, change })
     }
 
     // Makes an edit.
@@ -96,12 +92,8 @@ impl<'a, A: Point> Plan<'a, A> {
         ensures long { length self.new.rows.now ≡ length self.old.rows.now }
         ensures lent { self.new.rows.ghost_name ≡ self.old.rows.ghost_name }
     {
-        match self.judge(name, low, high) {
-            Ok(edit) => {
-                self.enter(name, &edit);
-                Ok(edit.number)
-            }
-            Err(e) => Err(e),
-        }
+        let edit = self.judge(name, low, high)?;
+        self.enter(name, &edit);
+        Ok(edit.number)
     }
 }

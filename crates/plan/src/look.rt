@@ -1,5 +1,5 @@
 // What a plan tells: the network of an address, the number of a name, the name of a number, and the runs of its line.
-ghost use Rattle.std.specs.Prelude.{◌≡◌, ℕ, ◌-◌, ◌<◌, ◌≤◌, List, [], length, take, None, Ok, Err, MatchOption, ◌==◌};
+ghost use Rattle.std.specs.Prelude.{◌≡◌, ◌<◌, ◌≤◌, List, length, take, None, Ok, Err, MatchOption, ◌==◌};
 ghost use Rattle.refusal.specs.declared.refusal.Refusal.TheVariants as cause;
 ghost use Rattle.names.specs.Names as said;
 ghost use Rattle.plan.specs.Declarations.{Declaration, names_of, network_of};
@@ -10,6 +10,7 @@ use line::{Point, Run, look_up};
 use names::Names;
 use refusal::Refusal;
 
+// `Made ..` is a premise of each clause: which declarations made a plan is no function of what it holds, so that each clause has to name the list. An invariant, which could only say that there is one, is no plainer.
 impl<'a, A: Point> Plan<'a, A> {
     // Whether the plan was opened with rows that a plan may not have.
     pub fn is_shut(&self) -> bool
@@ -27,13 +28,9 @@ impl<'a, A: Point> Plan<'a, A> {
 
     // The runs of the line; none where the plan is shut.
     pub fn runs(&self) -> &[Run<A, u8>]
-        ensures told { self.now.count ≤ length self.now.rows.now → result.now ≡ take self.now.count self.now.rows.now }
-        ensures none { length self.now.rows.now < self.now.count → result.now ≡ [] }
+        ensures { result.now ≡ take self.now.count self.now.rows.now }
     {
-        if self.count > self.rows.len() {
-            return &self.rows[0..0];
-        }
-        &self.rows[0..self.count]
+        &self.rows[..self.count]
     }
 
     // The names, by which the numbers go.
@@ -48,9 +45,6 @@ impl<'a, A: Point> Plan<'a, A> {
         ensures shut { Shut self.now → result ≡ 0 }
         ensures told { (ds : List Declaration) → Made A.Point.place A.Point.size ds self.now → result ≡ length (names_of ds) }
     {
-        if self.count == 0 {
-            return 0;
-        }
         self.names.count()
     }
 
@@ -59,10 +53,7 @@ impl<'a, A: Point> Plan<'a, A> {
         ensures shut { Shut self.now → result ≡ Err cause.Shut }
         ensures told { (ds : List Declaration) → Made A.Point.place A.Point.size ds self.now → result ≡ Ok (network_of ds (A.Point.place address.now)) }
     {
-        match look_up(self.runs(), address) {
-            Some(number) => Ok(number),
-            None => Err(Refusal::Shut),
-        }
+        look_up(self.runs(), address).ok_or(Refusal::Shut)
     }
 
     // The number of a declared name; none where the plan is shut.
@@ -70,9 +61,6 @@ impl<'a, A: Point> Plan<'a, A> {
         ensures shut { Shut self.now → result ≡ None }
         ensures told { (ds : List Declaration) → Made A.Point.place A.Point.size ds self.now → result ≡ said.declared (names_of ds) name.now }
     {
-        if self.count == 0 {
-            return None;
-        }
         self.names.find(name)
     }
 
@@ -81,9 +69,6 @@ impl<'a, A: Point> Plan<'a, A> {
         ensures shut { Shut self.now → MatchOption result (0 ≤ 0) (λ _. ⊥) }
         ensures told { (ds : List Declaration) → Made A.Point.place A.Point.size ds self.now → MatchOption result (1 ≤ number → length (names_of ds) < number) (λ t. said.Numbered (names_of ds) number t.now) }
     {
-        if self.count == 0 {
-            return None;
-        }
         self.names.text(number)
     }
 }

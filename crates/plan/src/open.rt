@@ -1,5 +1,5 @@
 // Opening a plan: a check of the size, which may refuse, and the opening, which cannot.
-ghost use Rattle.std.specs.Prelude.{◌≡◌, ◌≤◌, true, false, [], length, MatchResult};
+ghost use Rattle.std.specs.Prelude.{◌≡◌, true, false, [], length, MatchResult};
 ghost use Rattle.refusal.specs.declared.refusal.Refusal.TheVariants.{WrongSize};
 ghost use Rattle.plan.specs.Made.{size_fits, Made, Shut};
 
@@ -12,7 +12,7 @@ use refusal::Refusal;
 fn fits(rows: usize) -> bool
     ensures { result ≡ size_fits rows }
 {
-    rows >= 1 && rows <= 4096
+    (1..=4096).contains(&rows)
 }
 
 // Whether a plan may have so many rows: 1 to 4,096.
@@ -41,19 +41,11 @@ impl<'a, A: Point> Plan<'a, A> {
                 names: Names::new(),
             };
         }
-        let first = A::first();
-        fill(
-            rows,
-            Run {
-                low: first,
-                high: first,
-                label: 0,
-            },
-        );
+        let blank = Run::blank(0);
+        fill(rows, blank);
         rows[0] = Run {
-            low: first,
             high: A::last(),
-            label: 0,
+            ..blank
         };
         Plan {
             rows,

@@ -1,106 +1,48 @@
-use Rattle.std.proofs.Common.{◌≡◌, ℕ, ◌≤◌, List, length, sym, refl, ap, ◌∙◌, subst, zero-le, arith, eqb-true}
-use borrow.Author.Tests.{eqb-false}
-use Rattle.std.proofs.lemmas.List.{length-take-le}
+use Rattle.std.proofs.Common.{ℕ, List, sym, refl, ap, ◌∙◌, subst, arith}
+use Rattle.std.proofs.lemmas.Result.{err_from_is_err_and}
 use Rattle.line.specs.declared.run.Run.{Run}
 use Rattle.line.specs.Line.{Line, over}
-use Rattle.splice.specs.Changes.{changed, count_after, Apt}
+use Rattle.splice.specs.Changes.{changed}
 use Rattle.names.specs.Names.{number_in}
 use Rattle.names.specs.Texts.{texts}
 use Rattle.plan.specs.Declarations.{Declaration, network_of}
 use Rattle.plan.proofs.Snoc.{number_positive}
-use Rattle.plan.proofs.Makes.{well_short, refuses, some_fits, no_runs, open_runs, not_zero}
-use Rattle.plan.proofs.Checks.{cause_refuses, none_sane, none_passes}
+use Rattle.plan.proofs.Makes.{refuses}
+use Rattle.plan.proofs.Checks.{cause_refuses, none_sane}
 use Rattle.plan.proofs.plan.Plan.judge.Goals as goal
 
-pub returns-then-is_empty : goal.returns-then-is_empty
-returns-then-is_empty g c = record {
-  shut = λ _. refl;
-  safe = zero-le;
-  judged = λ ds made.
-      let some = open_runs g.A.Point.place g.A.Point.size ds c.args.self.now made c.runs-runs.result.now (c.runs-runs.ensures.told made.fits) in
-      let none = eqb-true _ _ (sym c.if-is_empty.ensures) in
-      absurd (omega arith);
-}
-
-pub returns-in-Some : goal.returns-in-Some
-returns-in-Some g c =
+pub returns-in_err-check_sane-clause-judged : goal.returns-in_err-check_sane-clause-judged
+returns-in_err-check_sane-clause-judged g c = λ ds made.
     let place = g.A.Point.place in
-    let some = not_zero _ (eqb-false _ _ (sym c.if-is_empty.ensures)) in
-    record {
-      shut = λ z. absurd (no_runs c.args.self.now c.runs-runs.result.now c.runs-runs.ensures.told z some);
-      safe = zero-le;
-      judged = λ ds made.
-          let is = c.number-number.ensures.number ∙ ap (λ (ns : List (List ℕ)). number_in ns c.args.name.now) made.names in
-          let d : Declaration = record { name = c.args.name.now; low = place c.args.low; high = place c.args.high } in
-          cause_refuses ds d c.number-number.result is g.A.Point.size _ _ _ _ c.in-Some.cause c.is_well_formed.ensures c.before-2.ensures refl c.in-Some.ensures;
-    }
+    let is = c.number-number.ensures.number ∙ ap (λ (ns : List (List ℕ)). number_in ns c.args.name.now) made.names in
+    let d : Declaration = record { name = c.args.name.now; low = place c.args.low; high = place c.args.high } in
+    let p = err_from_is_err_and c.from_residual.result c.from_residual.ensures.1 in
+    rw (p.1, p.2) (cause_refuses ds d c.number-number.result is g.A.Point.size _ _ _ _ _ refl refl refl c.in_err-check_sane.ensures)
 
-pub fit-requires : goal.fit-requires
-fit-requires g c =
-    let p = c.args.self.now in
-    let runs = c.runs-runs.result.now in
-    let some = not_zero _ (eqb-false _ _ (sym c.if-is_empty.ensures)) in
-    let fits = some_fits runs p.count (length p.rows.now) c.runs-runs.ensures.none some in
-    let long = ap length (c.runs-runs.ensures.told fits) ∙ length-take-le p.count p.rows.now fits in
-    let pos = number_positive (texts p.names) c.args.name.now in
-    record {
-      some = some;
-      fits = omega arith;
-      ordered = (none_passes _ _ _ _ _ c.number-number.result c.before-2.ensures refl c.in_default.ensures).1;
-      labels = omega (arith, c.number-number.ensures.number);
-    }
+pub fit-requires-clause-labels : goal.fit-requires-clause-labels
+fit-requires-clause-labels g c = omega (arith, c.number-number.ensures.number, number_positive (texts c.args.self.now.names) c.args.name.now)
 
-pub returns-in-Ok : goal.returns-in-Ok
-returns-in-Ok g c =
+pub returns-in_err-change-clause-judged : goal.returns-in_err-change-clause-judged
+returns-in_err-change-clause-judged g c = λ ds made.
     let place = g.A.Point.place in
-    let p = c.args.self.now in
-    let runs = c.runs-runs.result.now in
-    let some = not_zero _ (eqb-false _ _ (sym c.if-is_empty.ensures)) in
-    let fits = some_fits runs p.count (length p.rows.now) c.runs-runs.ensures.none some in
-    let told = c.runs-runs.ensures.told fits in
-    let long : length runs ≡ p.count = ap length told ∙ length-take-le p.count p.rows.now fits in
-    let passes = none_passes _ _ _ _ _ c.number-number.result c.before-2.ensures refl c.in_default.ensures in
-    let got = c.in-Ok.ensures in
-    record {
-      shut = λ z. absurd (no_runs p runs c.runs-runs.ensures.told z some);
-      safe = record {
-        some = omega arith;
-        fits = fits;
-        apt = subst (λ (n : ℕ). Apt n c.in-Ok.change) long got.apt.0;
-        room = subst (λ (n : ℕ). count_after c.in-Ok.change n ≤ length p.rows.now) long got.apt.1;
-        short = well_short _ (sym c.is_well_formed.ensures ∙ passes.0);
-        few = passes.2;
-        next = c.number-number.ensures.few;
-      };
-      judged = λ ds made.
-          let is = c.number-number.ensures.number ∙ ap (λ (ns : List (List ℕ)). number_in ns c.args.name.now) made.names in
-          let d : Declaration = record { name = c.args.name.now; low = place c.args.low; high = place c.args.high } in
-          let line = subst (λ (zs : List (Run _ ℕ)). Line place g.A.Point.size (network_of ds) zs) (sym told) made.line in
-          let j = got.judged (network_of ds) line in
-          record {
-            sane = none_sane ds d c.number-number.result is _ _ _ c.is_well_formed.ensures c.before-2.ensures refl c.in_default.ensures;
-            number = is;
-            free = j.0;
-            remains = j.1;
-            line = subst (λ (zs : List (Run _ ℕ)). Line place g.A.Point.size (over (network_of ds) (place c.args.low) (place c.args.high) c.number-number.result) (changed c.in-Ok.change zs)) told j.2;
-          };
-    }
+    let is = c.number-number.ensures.number ∙ ap (λ (ns : List (List ℕ)). number_in ns c.args.name.now) made.names in
+    let d : Declaration = record { name = c.args.name.now; low = place c.args.low; high = place c.args.high } in
+    let line = subst (λ (zs : List (Run _ ℕ)). Line place g.A.Point.size (network_of ds) zs) (sym c.runs.ensures) made.line in
+    let p = err_from_is_err_and c.from_residual-in_err-change.result c.from_residual-in_err-change.ensures.1 in
+    rw (p.1, p.2) (refuses g.A.Point.size _ ds d c.number-number.result is (none_sane ds d c.number-number.result is _ _ _ refl refl refl c.in_ok-check_sane.ensures)
+    _ (c.in_err-change.ensures.judged (network_of ds) line))
 
-pub returns-in-Err : goal.returns-in-Err
-returns-in-Err g c =
+pub returns-clause-judged : goal.returns-clause-judged
+returns-clause-judged g c = λ ds made.
     let place = g.A.Point.place in
-    let p = c.args.self.now in
-    let runs = c.runs-runs.result.now in
-    let some = not_zero _ (eqb-false _ _ (sym c.if-is_empty.ensures)) in
-    let got = c.in-Err.ensures in
+    let is = c.number-number.ensures.number ∙ ap (λ (ns : List (List ℕ)). number_in ns c.args.name.now) made.names in
+    let d : Declaration = record { name = c.args.name.now; low = place c.args.low; high = place c.args.high } in
+    let line = subst (λ (zs : List (Run _ ℕ)). Line place g.A.Point.size (network_of ds) zs) (sym c.runs.ensures) made.line in
+    let j = c.in_ok-change.ensures.judged (network_of ds) line in
     record {
-      shut = λ z. absurd (no_runs p runs c.runs-runs.ensures.told z some);
-      safe = zero-le;
-      judged = λ ds made.
-          let is = c.number-number.ensures.number ∙ ap (λ (ns : List (List ℕ)). number_in ns c.args.name.now) made.names in
-          let d : Declaration = record { name = c.args.name.now; low = place c.args.low; high = place c.args.high } in
-          let line = subst (λ (zs : List (Run _ ℕ)). Line place g.A.Point.size (network_of ds) zs) (sym (c.runs-runs.ensures.told made.fits)) made.line in
-          refuses g.A.Point.size _ ds d c.number-number.result is
-          (none_sane ds d c.number-number.result is _ _ _ c.is_well_formed.ensures c.before-2.ensures refl c.in_default.ensures)
-          c.in-Err.e (got.judged (network_of ds) line);
+      sane = none_sane ds d c.number-number.result is _ _ _ refl refl refl c.in_ok-check_sane.ensures;
+      number = is;
+      free = j.0;
+      remains = j.1;
+      line = subst (λ (zs : List (Run _ ℕ)). Line place g.A.Point.size (over (network_of ds) (place c.args.low) (place c.args.high) c.number-number.result) (changed c.in_ok-change.change zs)) c.runs.ensures j.2;
     }

@@ -1,25 +1,22 @@
-use Rattle.std.proofs.Common.{ℕ, List, Ok, sym, refl, ap, subst, arith}
+use Rattle.std.proofs.Common.{◌≡◌, ℕ, ◌<◌, List, length, Some, None, Option, MatchOption, sym, ap, ◌∙◌, subst, arith}
+use Rattle.std.specs.Option.{ok_or}
+use Rattle.refusal.specs.declared.refusal.Refusal.TheVariants.{Shut}
 use Rattle.line.specs.declared.run.Run.{Run}
 use Rattle.line.specs.Line.{Line}
+use Rattle.line.specs.Search.{Labelled}
 use Rattle.plan.specs.Declarations.{network_of}
-use Rattle.plan.proofs.Makes.{open_runs, no_runs}
+use Rattle.plan.proofs.Makes.{open_runs}
 use Rattle.plan.proofs.plan.Plan.network_of.Goals as goal
 
-pub returns-in-Some : goal.returns-in-Some
-returns-in-Some g c =
-    let found = c.in-Some.ensures in
-    let p = c.args.self.now in
-    record {
-      shut = λ z. absurd (no_runs p c.runs.result.now c.runs.ensures.told z found.some);
-      told = λ ds made. ap Ok (found.is (network_of ds) (subst (λ (zs : List (Run _ ℕ)). Line g.A.Point.place g.A.Point.size (network_of ds) zs) (sym (c.runs.ensures.told made.fits)) made.line));
-    }
+-- in a line with runs the look-up finds the label
+found : {P : Type 0} (place : P → ℕ) (size : ℕ) (f : ℕ → ℕ) (runs : List (Run P ℕ)) (x : ℕ) → 0 < length runs → Line place size f runs
+    → (o : Option ℕ) → MatchOption o (length runs ≡ 0) (Labelled place size runs x) → o ≡ Some (f x)
+found place size f runs x some line None h = absurd (omega arith)
+found place size f runs x some line (Some l) h = ap Some (h.is f line)
 
-pub returns-in-None : goal.returns-in-None
-returns-in-None g c =
-    let none = c.in-None.ensures in
-    record {
-      shut = λ z. refl;
-      told = λ ds made.
-          let some = open_runs g.A.Point.place g.A.Point.size ds c.args.self.now made c.runs.result.now (c.runs.ensures.told made.fits) in
-          absurd (omega arith);
-    }
+pub returns-clause-told : goal.returns-clause-told
+returns-clause-told g c = λ ds made.
+    let some = open_runs g.A.Point.place g.A.Point.size ds c.args.self.now made c.runs.result.now c.runs.ensures in
+    let line = subst (λ (zs : List (Run _ ℕ)). Line g.A.Point.place g.A.Point.size (network_of ds) zs) (sym c.runs.ensures) made.line in
+    let e = found g.A.Point.place g.A.Point.size (network_of ds) c.runs.result.now (g.A.Point.place c.args.address.now) some line c.look_up.result c.look_up.ensures in
+    c.ok_or.ensures.value ∙ ap (λ (o : Option ℕ). ok_or o Shut) e
