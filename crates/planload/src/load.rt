@@ -9,25 +9,23 @@ use crate::row::read_row;
 use address::Address;
 use plan::Plan;
 use refusal::{Fault, Refusal};
-use text::Rows;
+use text::{Row, Rows};
 
 // The bytes that a text may have at most.
 const LONGEST: usize = 16384;
 
-// Declares what the row in a line says.
-fn load_row<A: Address>(plan: &mut Plan<'_, A>, row: &[u8], line: usize) -> Result<(), Fault>
+// Declares what the row says. The clauses `long` and `lent` stand in full here and below, as in `plan`: each is one equality, and a word for it would be no plainer.
+fn load_row<A: Address>(plan: &mut Plan<'_, A>, row: &Row<'_>) -> Result<(), Fault>
     ensures refused { MatchResult result (λ _. 0 ≤ 0) (λ _. plan.new ≡ plan.old) }
-    ensures loads { AddsRow A.Address.text A.Point.place A.Point.size plan.old line row.now plan.new result }
+    ensures loads { AddsRow A.Address.text A.Point.place A.Point.size plan.old row.now.line row.now.bytes.now plan.new result }
     ensures long { length plan.new.rows.now ≡ length plan.old.rows.now }
     ensures lent { plan.new.rows.ghost_name ≡ plan.old.rows.ghost_name }
 {
-    match read_row::<A>(row, line) {
-        Ok(entry) => match plan.declare(entry.name, entry.low, entry.high) {
-            Ok(_) => Ok(()),
-            Err(refusal) => Err(Fault::new(refusal, line, 0)),
-        },
-        Err(fault) => Err(fault),
-    }
+    let line = row.line;
+    let entry = read_row::<A>(row)?;
+    plan.declare(entry.name, entry.low, entry.high)
+        .map_err(|refusal| Fault::new(refusal, line, 0))?;
+    Ok(())
 }
 
 // Declares what the rows of a text say, up to the first that is refused; what they declared before it stays.
@@ -44,10 +42,9 @@ pub fn load_plan<A: Address>(plan: &mut Plan<'_, A>, text: &[u8]) -> Result<(), 
     if text.len() > LONGEST {
         return Err(Fault::new(Refusal::TextTooLong, 0, 0));
     }
-    let mut rows = Rows::new(text);
-    while let Some(row) = rows.next() {
+    for row in Rows::new(text) {
         if !row.is_passed_over() {
-            load_row(plan, row.bytes, row.line)?;
+            load_row(plan, &row)?;
         }
     }
     Ok(())

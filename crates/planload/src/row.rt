@@ -1,12 +1,14 @@
 // What a row of a plan text says.
 ghost use Rattle.std.specs.Prelude.{◌≡◌, ℕ, ◌≤◌, true, List, MatchOption, MatchResult};
+ghost use Rattle.refusal.specs.declared.refusal.Refusal.TheVariants as cause;
+ghost use Rattle.refusal.specs.Faults.{fault};
 ghost use Rattle.names.specs.Names.{well_formed};
 ghost use Rattle.planload.specs.Loads.{Net, Unread};
 
 use address::Address;
 use names::is_well_formed;
 use refusal::{Fault, Refusal};
-use text::{Field, Fields};
+use text::{Field, Fields, Row};
 
 // The fields of a row `net,NAME,LOW,HIGH` after its word.
 #[derive(Drop)]
@@ -22,25 +24,14 @@ fn part_row(row: &[u8]) -> Option<NetRow<'_>>
     ensures numbers { MatchOption result (0 ≤ 0) (λ p. (p.name.number ≡ 2) × (p.low.number ≡ 3) × (p.high.number ≡ 4)) }
 {
     let mut fields = Fields::new(row);
-    let Some(word) = fields.next() else {
-        return None;
-    };
-    let Some(name) = fields.next() else {
-        return None;
-    };
-    let Some(low) = fields.next() else {
-        return None;
-    };
-    let Some(high) = fields.next() else {
-        return None;
-    };
-    if let Some(_) = fields.next() {
+    let word = fields.next()?;
+    let name = fields.next()?;
+    let low = fields.next()?;
+    let high = fields.next()?;
+    if word.bytes != b"net".as_slice() || fields.next().is_some() {
         return None;
     }
-    if word.bytes == b"net".as_slice() {
-        return Some(NetRow { name, low, high });
-    }
-    None
+    Some(NetRow { name, low, high })
 }
 
 // What a row says: a name and the range that it is declared for.
@@ -51,22 +42,23 @@ pub(crate) struct Entry<'t, A> {
     pub(crate) high: A,
 }
 
-// What the row in a line says, or its fault; the fields are read from the left.
-pub(crate) fn read_row<A: Address>(row: &[u8], line: usize) -> Result<Entry<'_, A>, Fault>
-    ensures { MatchResult result (λ e. Net row.now e.name.now (A.Address.text e.low) (A.Address.text e.high) × (well_formed e.name.now ≡ true)) (Unread A.Address.text line row.now) }
+// The fault of a malformed field of the row in a line.
+fn malformed(line: usize, field: &Field<'_>) -> Fault
+    ensures { result ≡ fault cause.FieldMalformed line field.now.number }
 {
-    let Some(fields) = part_row(row) else {
-        return Err(Fault::new(Refusal::WrongRow, line, 0));
-    };
+    Fault::new(Refusal::FieldMalformed, line, field.number)
+}
+
+// What the row says, or its fault; the fields are read from the left.
+pub(crate) fn read_row<'t, A: Address>(row: &Row<'t>) -> Result<Entry<'t, A>, Fault>
+    ensures { MatchResult result (λ e. Net row.now.bytes.now e.name.now (A.Address.text e.low) (A.Address.text e.high) × (well_formed e.name.now ≡ true)) (Unread A.Address.text row.now.line row.now.bytes.now) }
+{
+    let fields = part_row(row.bytes).ok_or(Fault::new(Refusal::WrongRow, row.line, 0))?;
     if !is_well_formed(fields.name.bytes) {
-        return Err(Fault::new(Refusal::FieldMalformed, line, fields.name.number));
+        return Err(malformed(row.line, &fields.name));
     }
-    let Some(low) = A::read_text(fields.low.bytes) else {
-        return Err(Fault::new(Refusal::FieldMalformed, line, fields.low.number));
-    };
-    let Some(high) = A::read_text(fields.high.bytes) else {
-        return Err(Fault::new(Refusal::FieldMalformed, line, fields.high.number));
-    };
+    let low = A::read_text(fields.low.bytes).ok_or(malformed(row.line, &fields.low))?;
+    let high = A::read_text(fields.high.bytes).ok_or(malformed(row.line, &fields.high))?;
     Ok(Entry {
         name: fields.name.bytes,
         low,

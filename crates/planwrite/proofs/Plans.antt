@@ -1,16 +1,13 @@
 -- What is written of a plan that declarations made.
-use Rattle.std.proofs.Common.{◌≡◌, ℕ, ◌+◌, ◌<◌, ◌≤◌, List, [], ◌∷◌, length, ap, ◌∙◌, arith}
+use Rattle.std.proofs.Common.{ℕ, ◌+◌, ◌<◌, List, [], ◌∷◌, length, arith}
 use Rattle.std.proofs.lemmas.List.{length-take-le}
 use Rattle.line.specs.declared.run.Run.{Run}
 use Rattle.line.specs.Line.{Joined}
 use Rattle.line.proofs.Lines.{joined_le}
 use Rattle.text.specs.Parts.{Lacks}
-use Rattle.names.specs.declared.name.Names.{Names}
-use Rattle.names.specs.Texts.{texts}
 use Rattle.plan.specs.declared.plan.Plan.{Plan}
-use Rattle.plan.specs.Declarations.{Declaration, names_of}
+use Rattle.plan.specs.Declarations.{Declaration}
 use Rattle.plan.specs.Made.{Made}
-use Rattle.planwrite.specs.Written.{plan_text}
 use Rattle.planwrite.specs.Writes.{runs_of}
 use Rattle.planwrite.specs.Back.{ReadsBack}
 use Rattle.planwrite.proofs.Backing.{reads_back}
@@ -21,14 +18,7 @@ some_place place size [] some j = absurd (omega arith)
 some_place place size (r ∷ runs) some j = let le = joined_le place size (place r.high + 1) runs j.2 in omega arith
 
 module _ {A : Type 0} (text : A → List ℕ) (place : A → ℕ) (size : ℕ) (ds : List Declaration) (p : Plan A) (made : Made place size ds p) where
-  -- the text of the names and runs that the plan tells is that of the plan
-  pub same_text : (names : Names) (runs : List (Run A ℕ)) → names ≡ p.names → (p.count ≤ length p.rows.now → runs ≡ runs_of p)
-      → plan_text text (texts names) runs ≡ plan_text text (names_of ds) (runs_of p)
-  same_text names runs named told =
-      ap (λ (zs : List (List ℕ)). plan_text text zs runs) (ap texts named ∙ made.names)
-      ∙ ap (λ (rs : List (Run A ℕ)). plan_text text (names_of ds) rs) (told made.fits)
-
-  -- and it reads back
+  -- its text reads back
   pub plan_reads : ((a : A) → Lacks 44 (text a) × Lacks 10 (text a)) → ReadsBack text place size (length p.rows.now) ds (runs_of p)
   plan_reads plain =
       let long = length-take-le p.count p.rows.now made.fits in

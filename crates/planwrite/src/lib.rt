@@ -1,7 +1,6 @@
 // Plans as text: what a plan holds, written row by row into a lent buffer.
 #![tactic(auto)]
 
-mod room;
 mod rows;
 #[cfg(test)]
 mod tests;

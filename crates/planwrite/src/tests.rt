@@ -7,12 +7,7 @@ use std::test::Fail;
 
 #[test]
 fn networks_go_by_number_and_runs_by_address(rt: HostRuntime) -> Result<(), Fail> {
-    let first = Ipv4::new(0);
-    let mut rows = [Run {
-        low: first,
-        high: first,
-        label: 0,
-    }; 8];
+    let mut rows = [Run::blank(0); 8];
     let mut plan = Plan::open(&mut rows);
     assert!(rt;
         plan.declare(b"lan", Ipv4::new(3221225984), Ipv4::new(3221226239))
@@ -40,11 +35,7 @@ fn networks_go_by_number_and_runs_by_address(rt: HostRuntime) -> Result<(), Fail
 #[test]
 fn one_byte_too_few_is_refused(rt: HostRuntime) {
     let first = Ipv4::new(0);
-    let mut rows = [Run {
-        low: first,
-        high: first,
-        label: 0,
-    }; 8];
+    let mut rows = [Run::blank(0); 8];
     let mut plan = Plan::open(&mut rows);
     assert!(rt; plan.declare(b"lan", first, first).is_ok());
     let mut short = [7; 23];

@@ -5,11 +5,11 @@ ghost use Rattle.plan.specs.Made.{Shut};
 ghost use Rattle.planwrite.specs.Writes.{WritesText};
 ghost use Rattle.planwrite.specs.Back.{Backs};
 
-use crate::room::room_after;
 use crate::rows::write_nets;
 use address::Address;
 use plan::Plan;
 use refusal::Refusal;
+use text::{Room, Writer};
 
 // Writes the text of the plan at the start of the buffer, and says how long it is.
 pub fn write_plan<A: Address>(plan: &Plan<'_, A>, out: &mut [u8]) -> Result<usize, Refusal>
@@ -22,8 +22,10 @@ pub fn write_plan<A: Address>(plan: &Plan<'_, A>, out: &mut [u8]) -> Result<usiz
     }
     let names = plan.names();
     let runs = plan.runs();
-    let Some(_) = room_after(names, runs, out.len()) else {
-        return Err(Refusal::BufferTooShort);
-    };
-    Ok(write_nets(names, runs, out))
+    let mut room = Room::new(out.len());
+    write_nets(names, runs, &mut room);
+    room.left().ok_or(Refusal::BufferTooShort)?;
+    let mut writer = Writer::new(out);
+    write_nets(names, runs, &mut writer);
+    Ok(writer.end())
 }

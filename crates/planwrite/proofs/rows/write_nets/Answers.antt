@@ -1,45 +1,36 @@
--- Each number adds the rows of its network.
-use Rattle.std.proofs.Common.{ℕ, ◌+◌, List, drop, arith}
-use Rattle.std.proofs.lemmas.List.{at_drop_all}
-use Rattle.names.specs.Texts.{texts}
-use Rattle.planwrite.specs.Written.{net_text, nets_text, plan_text}
-use Rattle.planwrite.proofs.Writing.{part_fits, part_written, all_written, nets_step}
+-- Each name adds the rows of its network.
+use Rattle.std.proofs.Common.{◌≡◌, ℕ, ◌+◌, ◌<◌, List, [], ◌++◌, length, map, get_or, drop, sym, ap, ◌∙◌, arith}
+use Rattle.std.proofs.lemmas.List.{get_or-map, length-map}
+use Rattle.line.specs.declared.run.Run.{Run}
+use Rattle.names.specs.declared.name.Name.{Name}
+use Rattle.names.specs.Texts.{text_of, texts}
+use Rattle.planwrite.specs.Written.{net_text, nets_text}
+use Rattle.planwrite.proofs.Writing.{begin, part_fits, part_taken, nets_step}
 use Rattle.planwrite.proofs.rows.write_nets.Goals as goal
 
-pub write_net-place-requires : goal.write_net-place-requires
-write_net-place-requires g c =
+-- the networks from that of the name at i on
+step : {A : Type 0} (text : A → List ℕ) (names : List (List ℕ)) (runs : List (Run A ℕ)) (items : List Name) (item : Name) (i : ℕ) (name : List ℕ)
+    → map text_of items ≡ names → i < length items → item ≡ get_or items i item → name ≡ text_of item
+    → nets_text text (i + 1) (drop i names) runs ≡ net_text text (i + 1) name runs ++ nets_text text (i + 1 + 1) (drop (i + 1) names) runs
+step text names runs items item i name are inside is told =
+    nets_step text names runs i name (omega (arith, length-map items text_of, ap length are))
+    (told ∙ ap text_of is ∙ sym (get_or-map text_of items i item [] inside) ∙ ap (λ (q : List (List ℕ)). get_or q i []) are)
+
+pub loop-i-init : goal.loop-i-init
+loop-i-init g c = begin g.met.S.Sink.laws _ c.args.sink.now c.requires
+
+pub write_net-requires : goal.write_net-requires
+write_net-requires g c =
     let text = g.A.Address.text in
     let names = texts c.args.names.now in
-    let runs = c.args.runs.now in
     let i = c.loop-i.i in
-    let name = c.in-Some.name.now in
-    let found = c.in-Some.ensures in
-    let step = nets_step text names runs i name (omega arith) found.2 in
-    let fits =
-    part_fits (plan_text text names runs) (nets_text text (i + 1) (drop i names) runs) c.args.out.now c.loop-i.out 0 c.loop-i.place c.loop-i.invariant
-    (net_text text (i + 1) name runs) (nets_text text (i + 1 + 1) (drop (i + 1) names) runs) step (omega arith) in
-    omega arith
+    part_fits g.met.S.Sink.laws c.loop-i.invariant (nets_text text (i + 1 + 1) (drop (i + 1) names) c.args.runs.now)
+    (step text names c.args.runs.now _ c.name-item.result i c.text.result.now c.as_slice-name-items.ensures c.loop-i-test.true c.name-item.is c.text.ensures)
 
 pub loop-i-preserved : goal.loop-i-preserved
 loop-i-preserved g c =
     let text = g.A.Address.text in
     let names = texts c.args.names.now in
-    let runs = c.args.runs.now in
-    let i = c.loop-i.i in
-    let name = c.in-Some.name.now in
-    let found = c.in-Some.ensures in
-    let step = nets_step text names runs i name (omega arith) found.2 in
-    part_written (plan_text text names runs) (nets_text text (i + 1) (drop i names) runs) c.args.out.now c.loop-i.out 0 c.loop-i.place c.loop-i.invariant
-    (net_text text (i + 1) name runs) (nets_text text (i + 1 + 1) (drop (i + 1) names) runs) c.write_net-place.new.out c.write_net-place.result
-    step (omega arith) c.write_net-place.ensures.wrote c.write_net-place.ensures.end
-
-pub returns : goal.returns
-returns g c =
-    let text = g.A.Address.text in
-    let names = texts c.args.names.now in
-    let runs = c.args.runs.now in
-    let i = c.loop-i.i in
-    let none = at_drop_all (λ (zs : List (List ℕ)). nets_text text (i + 1) zs runs) names i (omega arith) in
-    let done =
-    all_written (plan_text text names runs) (nets_text text (i + 1) (drop i names) runs) c.args.out.now c.loop-i.out 0 c.loop-i.place c.loop-i.invariant none in
-    record { end = omega (arith, done.0); wrote = done.1 }
+    part_taken g.met.S.Sink.laws c.loop-i.invariant
+    (step text names c.args.runs.now _ c.name-item.result c.loop-i.i c.text.result.now c.as_slice-name-items.ensures c.loop-i-test.true c.name-item.is c.text.ensures)
+    c.write_net.ensures

@@ -1,4 +1,4 @@
--- The networks up to the number i are written.
+-- The networks so far are put, and there is room for the others.
 use Rattle.std.proofs.Common.{◌+◌, drop}
 use Rattle.names.specs.Texts.{texts}
 use Rattle.planwrite.specs.Written.{nets_text, plan_text}
@@ -7,5 +7,4 @@ use Rattle.planwrite.proofs.rows.write_nets.Given as goal
 
 abbrev pub invariant-loop-i : goal.invariant-loop-i
 invariant-loop-i g l =
-    Begun (plan_text g.A.Address.text (texts l.names) l.runs) (nets_text g.A.Address.text (l.i + 1) (drop l.i (texts l.names)) l.runs)
-    l.initial.out l.out 0 l.place
+    Begun g.S.Sink.has_room g.S.Sink.takes (plan_text g.A.Address.text (texts l.names) l.runs) (nets_text g.A.Address.text (l.i + 1) (drop l.i (texts l.names)) l.runs) l.initial.sink l.sink
