@@ -1,11 +1,21 @@
 -- One pass over the rules, which finds the decider and how far it decides.
-use Rattle.std.proofs.Common.{◌≡◌, ℕ, ◌+◌, ◌<◌, ◌≤◌, true, false, cond, ◌&&◌, leb, List, ◌∷◌, length, get_or, drop, Some, None, sym, refl, ap, ◌∙◌, arith}
+use Rattle.std.proofs.Common.{◌≡◌, ℕ, ◌+◌, ◌<◌, ◌≤◌, Bool, true, false, cond, ◌&&◌, leb, ltb, List, ◌∷◌, length, get_or, drop, Some, sym, ap, ◌∙◌, arith}
 use Rattle.std.proofs.lemmas.Bool.{and_left, and_right, and_from, cond-true, cond-false, lt-leb, le-leb}
-use Rattle.std.proofs.lemmas.List.{drop_more, drop_all}
+use Rattle.std.proofs.lemmas.List.{drop_more}
+use Rattle.std.specs.Ordering.{partial_lt, partial_le}
 use Rattle.line.specs.Line.{Keeps}
 use Rattle.rules.specs.declared.rule.Rule.{Rule}
-use Rattle.service.specs.Spans.{first_place, last_place}
+use Rattle.service.specs.Spans.{place_of, first_place, last_place}
+use Rattle.service.specs.declared.service.Service.{Service}
+use Rattle.service.specs.contracts.service.ServicePartialOrd.TheImpl.{ghosts as services}
 use Rattle.rules.specs.Decisions.{decides, decider, in_force, covers_pair}
+
+-- what `<` and `<=` say of the places of two services
+pub lt_places : (a b : Service) (r : Bool) → r ≡ partial_lt services.partial_cmp a b → r ≡ ltb (place_of a) (place_of b)
+lt_places a b r e = let p = a.port_fits in let q = b.port_fits in grind arith
+
+pub le_places : (a b : Service) (r : Bool) → r ≡ partial_le services.partial_cmp a b → r ≡ leb (place_of a) (place_of b)
+le_places a b r e = let p = a.port_fits in let q = b.port_fits in grind arith
 
 module _ (r : Rule) (from to x : ℕ) where
   pub off : (in_force r && covers_pair r from to) ≡ false → decides r from to x ≡ false
@@ -30,9 +40,6 @@ pub record Passed (rules : List Rule) (i from to s end : ℕ) : Type 0 where
   pub same : (x : ℕ) → s ≤ x → x ≤ end → decider rules from to x ≡ decider (drop i rules) from to x
 
 module _ (rules : List Rule) (from to s : ℕ) where
-  pub passed_none : (end : ℕ) → s ≤ end → Passed rules 0 from to s end
-  passed_none end le = record { ordered = le; same = λ x _ _. refl }
-
   module _ (i : ℕ) (r : Rule) (end : ℕ) (lt : i < length rules) (read : r ≡ get_or rules i r) (inv : Passed rules i from to s end) where
     step : (x : ℕ) → s ≤ x → x ≤ end → decider rules from to x ≡ cond (decides r from to x) (Some r) (decider (drop (i + 1) rules) from to x)
     step x a b =
@@ -46,11 +53,3 @@ module _ (rules : List Rule) (from to s : ℕ) where
     pub passed_found : (next : ℕ) → s ≤ next → next ≤ end → ((x : ℕ) → s ≤ x → x ≤ next → decides r from to x ≡ true) → Keeps (decider rules from to) (Some r) s next
     passed_found next a b here =
         record { ordered = a; labelled = λ x p q. step x p (omega arith) ∙ cond-true _ _ _ (here x p q) }
-
-  pub passed_all : (i end : ℕ) → length rules ≤ i → Passed rules i from to s end → Keeps (decider rules from to) None s end
-  passed_all i end le inv =
-      record { ordered = inv.ordered; labelled = λ x p q. inv.same x p q ∙ ap (λ (l : List Rule). decider l from to x) (drop_all i rules le) }
-
--- what is told of one thing is told of what is made of it
-pub keeps_map : {A B : Type 0} (g : A → B) (f : ℕ → A) (l : A) (from to : ℕ) → Keeps f l from to → Keeps (λ x. g (f x)) (g l) from to
-keeps_map g f l from to k = record { ordered = k.ordered; labelled = λ x a b. ap g (k.labelled x a b) }

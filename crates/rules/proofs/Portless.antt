@@ -1,6 +1,6 @@
 -- The rules do not tell the ports of a protocol apart that carries none.
-use Rattle.std.proofs.Common.{◌≡◌, ℕ, ◌<◌, ◌≤◌, Bool, false, cond, ◌&&◌, leb, List, [], ◌∷◌, Some, None, Option, sym, refl, ap, ◌∙◌, inl, inr, arith}
-use Rattle.std.proofs.lemmas.Bool.{cases_order, le-leb, lt-leb}
+use Rattle.std.proofs.Common.{◌≡◌, ℕ, ◌<◌, ◌≤◌, Bool, false, cond, ◌&&◌, leb, List, [], ◌∷◌, Some, None, Option, refl, ap, ◌∙◌, inl, inr, arith}
+use Rattle.std.proofs.lemmas.Bool.{cases_order}
 use Rattle.service.specs.declared.span.Span.{Span}
 use Rattle.service.specs.Ports.{carries_ports, has_ports}
 use Rattle.service.specs.Spans.{service_at, port_place, span_has}
@@ -11,22 +11,22 @@ use Rattle.rules.specs.Policies.{PortsAlike}
 module _ (p q o : ℕ) (few : p < 256) (port : q < 65536) (other : o < 65536) (bare : carries_ports p ≡ false) where
   same_first : (r : Option ℕ) (low high : ℕ) → low ≤ high → high < 65536 → (has_ports r ≡ false → (low ≡ 0) × (high ≡ 65535))
       → leb (port_place r low 0) (service_at p q) ≡ leb (port_place r low 0) (service_at p o)
-  same_first None low high le fits full = le-leb _ _ (omega arith) ∙ sym (le-leb _ _ (omega arith))
+  same_first None low high le fits full = grind arith
   same_first (Some r) low high le fits full =
       elim (cases_order r p) [
-        | inl e ↦ let f = full (ap carries_ports e ∙ bare) in le-leb _ _ (omega arith) ∙ sym (le-leb _ _ (omega arith))
-        | inr (inl lt) ↦ le-leb _ _ (omega arith) ∙ sym (le-leb _ _ (omega arith))
-        | inr (inr gt) ↦ lt-leb _ _ (omega arith) ∙ sym (lt-leb _ _ (omega arith))
+        | inl e ↦ let f = full (ap carries_ports e ∙ bare) in grind arith
+        | inr (inl lt) ↦ grind arith
+        | inr (inr gt) ↦ grind arith
       ]
 
   same_last : (r : Option ℕ) (low high : ℕ) → low ≤ high → high < 65536 → (has_ports r ≡ false → (low ≡ 0) × (high ≡ 65535))
       → leb (service_at p q) (port_place r high 16777215) ≡ leb (service_at p o) (port_place r high 16777215)
-  same_last None low high le fits full = le-leb _ _ (omega arith) ∙ sym (le-leb _ _ (omega arith))
+  same_last None low high le fits full = grind arith
   same_last (Some r) low high le fits full =
       elim (cases_order r p) [
-        | inl e ↦ let f = full (ap carries_ports e ∙ bare) in le-leb _ _ (omega arith) ∙ sym (le-leb _ _ (omega arith))
-        | inr (inl lt) ↦ lt-leb _ _ (omega arith) ∙ sym (lt-leb _ _ (omega arith))
-        | inr (inr gt) ↦ le-leb _ _ (omega arith) ∙ sym (le-leb _ _ (omega arith))
+        | inl e ↦ let f = full (ap carries_ports e ∙ bare) in grind arith
+        | inr (inl lt) ↦ grind arith
+        | inr (inr gt) ↦ grind arith
       ]
 
   same_span : (s : Span) → span_has s (service_at p q) ≡ span_has s (service_at p o)

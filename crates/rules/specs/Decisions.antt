@@ -1,5 +1,6 @@
 -- What a rule covers, when it is in force, and which rule of a list decides. A packet counts by its networks `from` and `to` and the place x of its service.
 use Rattle.std.specs.Prelude.{ℕ, Bool, cond, ◌&&◌, List, [], ◌∷◌, Some, None, Option}
+use Rattle.std.specs.Option.{option_map}
 use Rattle.service.specs.Spans.{span_has}
 use Rattle.rules.specs.declared.action.Action.{Action}
 use Rattle.rules.specs.declared.rule.Rule.{Rule}
@@ -33,13 +34,15 @@ decider (r ∷ rules) from to x = cond (decides r from to x) (Some r) (decider r
 
 -- the action of a rule, if there is one
 abbrev pub action_of : Option Rule → Option Action
-action_of None = None
-action_of (Some r) = Some r.action
+action_of = option_map (λ r. r.action)
 
 -- the id of a rule, if there is one
 abbrev pub id_of : Option Rule → Option ℕ
-id_of None = None
-id_of (Some r) = Some r.id
+id_of = option_map (λ r. r.id)
+
+-- what is told of the decider, or none
+abbrev pub told_by : {L : Type 0} → (Rule → L) → List Rule → ℕ → ℕ → ℕ → Option L
+told_by told rules from to x = option_map told (decider rules from to x)
 
 -- what the rules decide: the action of the decider, or none
 abbrev pub decision : List Rule → ℕ → ℕ → ℕ → Option Action

@@ -1,18 +1,16 @@
--- Which networks the from or the to of a rule contains, and which pairs both do.
-use Rattle.std.specs.Prelude.{ℕ, Bool, true, ◌&&◌, ◌==◌, nat_le}
-use Rattle.rules.specs.declared.end.End.{End}
-use Rattle.rules.specs.declared.end.End.TheVariants.{Any, Network}
+-- Which networks the from or the to of a rule contains, and which pairs both do. Each is one network, or any where there is none.
+use Rattle.std.specs.Prelude.{ℕ, Bool, true, ◌&&◌, Some, None, Option, ◌==◌, nat_le}
 use Rattle.rules.specs.declared.scope.Scope.{Scope}
 
 -- any contains every network, and else there is one
-abbrev pub end_has : End → ℕ → Bool
-end_has Any network = true
-end_has (Network n) network = n == network
+abbrev pub end_has : Option ℕ → ℕ → Bool
+end_has None network = true
+end_has (Some n) network = n == network
 
 -- the end names no network above the last
-abbrev pub end_known : End → ℕ → Bool
-end_known Any networks = true
-end_known (Network n) networks = nat_le n networks
+abbrev pub end_known : Option ℕ → ℕ → Bool
+end_known None networks = true
+end_known (Some n) networks = nat_le n networks
 
 -- a pair of networks is in a scope when its from and its to contain them
 abbrev pub scope_has : Scope → ℕ → ℕ → Bool

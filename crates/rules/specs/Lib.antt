@@ -1,4 +1,3 @@
-pub mod Actions
 pub mod ActionLemmas
 pub mod Ends
 pub mod Decisions

@@ -2,7 +2,7 @@
 ghost use Rattle.std.specs.Prelude.{◌≡◌, ◌&&◌};
 ghost use Rattle.rules.specs.Decisions.{in_force, covers_pair, scope_of};
 
-use crate::{Rule, Scope};
+use crate::{Pair, Rule, Scope};
 
 impl Rule {
     // Whether the rule is in force.
@@ -12,11 +12,11 @@ impl Rule {
         self.on
     }
 
-    // Whether the rule covers the pair of these networks.
-    pub fn covers(&self, from: u8, to: u8) -> bool
-        ensures { result ≡ covers_pair self.now from to }
+    // Whether the rule covers the pair.
+    pub fn covers(&self, pair: Pair) -> bool
+        ensures { result ≡ covers_pair self.now pair.from pair.to }
     {
-        self.from.has(from) && self.to.has(to)
+        self.scope().has(pair)
     }
 
     // The pairs that the rule covers.
@@ -29,10 +29,10 @@ impl Rule {
         }
     }
 
-    // Whether the rule is in force and covers the pair of these networks.
-    pub fn applies(&self, from: u8, to: u8) -> bool
-        ensures { result ≡ (in_force self.now && covers_pair self.now from to) }
+    // Whether the rule is in force and covers the pair.
+    pub fn applies(&self, pair: Pair) -> bool
+        ensures { result ≡ (in_force self.now && covers_pair self.now pair.from pair.to) }
     {
-        self.is_in_force() && self.covers(from, to)
+        self.is_in_force() && self.covers(pair)
     }
 }

@@ -1,19 +1,21 @@
-// Rules: what they cover, which one decides, and the labellings of a pair of networks that they tell.
+// Rules: what they cover, which one decides, and how they label the services of a pair of networks.
 #![tactic(auto)]
 
 mod action;
 mod covers;
-mod deciders;
-mod end;
-mod labellings;
+mod labelling;
+mod labels;
 mod laws;
+mod pair;
 mod pass;
 mod rule;
 mod scope;
+mod told;
 
 pub use action::Action;
-pub use deciders::{Deciders, Decisions};
-pub use end::End;
-pub use laws::policy_laws;
+pub use labels::{Deciders, Decisions, PairLabels};
+pub use laws::{label_laws, policy_laws};
+pub use pair::Pair;
 pub use rule::Rule;
 pub use scope::Scope;
+pub use told::Told;

@@ -3,4 +3,4 @@ use Rattle.rules.proofs.Passes.{Passed}
 use Rattle.rules.proofs.pass.deciding.Given as goal
 
 abbrev pub invariant-loop-rule : goal.invariant-loop-rule
-invariant-loop-rule l = Passed l.rules l.rule-index l.from l.to (place_of l.service) (place_of l.end)
+invariant-loop-rule l = Passed l.rules l.rule-index l.pair.from l.pair.to (place_of l.service) (place_of l.end)
