@@ -1,8 +1,10 @@
 pub mod Rows
 pub mod Numbered
+pub mod Steps
 pub mod Fits
 pub mod Same
 pub mod Sets
 pub mod Telling
 pub mod Empty
 pub mod Carried
+pub mod Progress

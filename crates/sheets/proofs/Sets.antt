@@ -1,5 +1,5 @@
 -- That a table is right has one proof at most, so it comes out of a truncation.
-use Rattle.std.proofs.Common.{◌≡◌, ℕ, ◌^◌, ◌≤◌, List, Some, None, Option, refl, ap, arith}
+use Rattle.std.proofs.Common.{rules, ◌≡◌, ℕ, ◌^◌, ◌≤◌, List, Some, None, Option, ap}
 use mathlib.Core.Logic.{∥∥₁_elim}
 use mathlib.Core.HLevel.{→_prop, Π_prop}
 use native.Mathlib.Nat.{ℕ_set}
@@ -21,15 +21,7 @@ number (Some Deny) = 2
 
 number_inj : (a b : Option Action) → number a ≡ number b → a ≡ b
 unfolding number
-number_inj None None e = refl
-number_inj None (Some Accept) e = absurd (omega arith)
-number_inj None (Some Deny) e = absurd (omega arith)
-number_inj (Some Accept) None e = absurd (omega arith)
-number_inj (Some Accept) (Some Accept) e = refl
-number_inj (Some Accept) (Some Deny) e = absurd (omega arith)
-number_inj (Some Deny) None e = absurd (omega arith)
-number_inj (Some Deny) (Some Accept) e = absurd (omega arith)
-number_inj (Some Deny) (Some Deny) e = refl
+number_inj a b e = search rules
 
 pub labels_set : IsSet (Option Action)
 labels_set = Coded-set (coded_via coded_ℕ number number_inj)

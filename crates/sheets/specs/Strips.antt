@@ -1,14 +1,14 @@
 -- The strips of all pairs of networks in one table, and when they hold the sheets of the rules.
 use Rattle.std.specs.Prelude.{◌≡◌, ℕ, zero, suc, ◌+◌, ◌*◌, ◌^◌, ◌≤◌, Bool, true, ◌&&◌, List, length, take, drop, None, Option, nat_le}
+use Rattle.std.specs.Option.{option_eq}
 use Rattle.std.proofs.Common.{lit<}
 use Rattle.line.specs.declared.run.Run.{Run}
 use Rattle.line.specs.Line.{Listed, runs_needed}
-use Rattle.line.specs.Alike.{alike_options}
 use Rattle.service.specs.declared.service.Service.{Service}
 use Rattle.service.specs.Spans.{place_of}
 use Rattle.rules.specs.declared.action.Action.{Action}
 use Rattle.rules.specs.declared.rule.Rule.{Rule}
-use Rattle.rules.specs.Actions.{alike_actions}
+use Rattle.rules.specs.contracts.action.ActionPartialEq.TheImpl as action_eq
 use Rattle.rules.specs.Decisions.{decision}
 
 -- a row of a sheet: a run of services under one label, which is accept, deny or none
@@ -23,9 +23,13 @@ first_service = record { protocol = 0; port = 0; protocol_fits = lit< tt; port_f
 abbrev pub blank_row : Row
 blank_row = record { low = first_service; high = first_service; label = None }
 
+-- what `==` answers of two labels
+abbrev pub same_label : Option Action → Option Action → Bool
+same_label = option_eq action_eq.ghosts.eq
+
 -- how many runs the line of a pair's decisions has
 unfoldable pub pair_needs : List Rule → ℕ → ℕ → ℕ
-pair_needs rules from to = runs_needed (alike_options alike_actions) (2 ^ 24) (decision rules from to)
+pair_needs rules from to = runs_needed same_label (2 ^ 24) (decision rules from to)
 
 -- the rows are the sheet of a pair: the line of its decisions, and then blank rows
 unfoldable pub PairSheet : List Rule → ℕ → ℕ → List Row → Type 0

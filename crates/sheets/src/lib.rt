@@ -5,8 +5,10 @@ mod compare;
 mod drawing;
 mod pairs;
 mod row;
+mod sheets;
+mod strips;
+mod walk;
 
-pub use compare::same_sheets;
-pub use drawing::{draw_sheets, sheets_fit};
-pub use pairs::strip_of;
 pub use row::SheetRow;
+pub use sheets::Sheets;
+pub use strips::Strips;

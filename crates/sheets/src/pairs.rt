@@ -1,25 +1,26 @@
-// Pairs of networks by their number, and the strip of a pair.
-ghost use Rattle.std.specs.Prelude.{◌≡◌, ◌+◌, ◌*◌, ◌/◌, ◌%◌, ◌<◌, ◌≤◌, length};
-ghost use Rattle.sheets.specs.Strips.{pairs_of, pair_number, strip};
+// The pairs of networks, one after the other.
+ghost use Rattle.std.specs.Prelude.{◌≡◌, ◌≤◌, Some};
+ghost use Rattle.std.specs.Option.{ForSome};
 
-use crate::SheetRow;
+use rules::Pair;
 
-// The two networks of a pair.
-pub(crate) fn networks_of(pair: u32, networks: u8) -> (u8, u8)
-    requires { pair < pairs_of networks }
-    ensures { (result.0 ≡ pair / (networks + 1)) × (result.1 ≡ pair % (networks + 1)) }
-{
-    let side = networks as u32 + 1;
-    ((pair / side) as u8, (pair % side) as u8)
+// The pairs of so many named networks and elsewhere that are still to come, from `next` on, ordered by from and then by to.
+#[derive(Drop)]
+pub(crate) struct Pairs {
+    pub(crate) networks: u8,
+    pub(crate) next: Option<Pair>,
+    ghost inside: { ForSome next (λ pair. (pair.from ≤ networks) × (pair.to ≤ networks)) },
 }
 
-// The strip of a pair.
-pub fn strip_of(rows: &[SheetRow], networks: u8, depth: usize, from: u8, to: u8) -> &[SheetRow]
-    requires long { pairs_of networks * depth ≤ length rows.now }
-    requires inside { (from ≤ networks) × (to ≤ networks) }
-    ensures { result.now ≡ strip depth (pair_number networks from to) rows.now }
-{
-    let pair = from as usize * (networks as usize + 1) + to as usize;
-    let start = pair * depth;
-    &rows[start..start + depth]
+impl Pairs {
+    // All pairs of so many named networks and elsewhere.
+    pub(crate) fn new(networks: u8) -> Pairs
+        ensures networks { result.networks ≡ networks }
+        ensures next { result.next ≡ Some (record { from = 0; to = 0 }) }
+    {
+        Pairs {
+            networks,
+            next: Some(Pair { from: 0, to: 0 }),
+        }
+    }
 }

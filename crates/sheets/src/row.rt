@@ -13,9 +13,5 @@ pub type SheetRow = Run<Service, Option<Action>>;
 pub(crate) fn blank_row() -> SheetRow
     ensures { result ≡ blank_row }
 {
-    Run {
-        low: Service::new(0, 0),
-        high: Service::new(0, 0),
-        label: None,
-    }
+    Run::blank(None)
 }

@@ -2,7 +2,6 @@
 #![tactic(auto)]
 
 mod edits;
-mod places;
 mod table;
 
-pub use table::RuleTable;
+pub use table::{MOST_RULES, RuleTable};

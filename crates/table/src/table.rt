@@ -1,14 +1,12 @@
 // The table in memory.
-ghost use Rattle.std.specs.Prelude.{◌≡◌, ◌≤◌, length};
-ghost use Rattle.table.specs.Limits.{most_rules};
-
+use few::Few;
 use rules::Rule;
 
-// The first `count` rows are the rules, in their order.
+// A table holds at most so many rules.
+pub const MOST_RULES: usize = 128;
+
+// The rules, in their order.
 #[derive(Clone, Copy)]
 pub struct RuleTable {
-    pub(crate) rows: [Rule; 128],
-    pub(crate) count: usize,
-    ghost few: { count ≤ most_rules },
-    ghost long: { length rows ≡ most_rules },
+    pub(crate) rules: Few<Rule, MOST_RULES>,
 }
