@@ -30,27 +30,27 @@ ServicesAlike networks rules others =
     (from to : ℕ) → from ≤ networks → to ≤ networks → (x : ℕ) → x < 2 ^ 24 → decision rules from to x ≡ decision others from to x
 
 module _ (r o : Ruleset) (both : Comparable r o) where
-  pub runs_services : ListAlike r o → ServicesAlike r.networks (rules_of r) (rules_of o)
+  pub runs_services : ListAlike r o → ServicesAlike r.sheets.networks (rules_of r) (rules_of o)
   runs_services alike from to a b =
       let e = both.networks in
       runs_agree (rules_of r) (rules_of o) from to _ _ ((right_of r both.ready).drawn from to a b) ((right_of o both.ready_too).drawn from to (omega arith) (omega arith)) (alike from to a b)
 
-  pub services_runs : ServicesAlike r.networks (rules_of r) (rules_of o) → ListAlike r o
+  pub services_runs : ServicesAlike r.sheets.networks (rules_of r) (rules_of o) → ListAlike r o
   services_runs alike from to a b =
       let e = both.networks in
       agree_runs (rules_of r) (rules_of o) from to _ _ ((right_of r both.ready).drawn from to a b) ((right_of o both.ready_too).drawn from to (omega arith) (omega arith)) (alike from to a b)
 
   -- what comparing two tables tells is told of the rulesets
   pub compared : (t : Bool)
-      → ((a b : List Rule) → Right a r.networks r.depth r.rows.now → Right b r.networks o.depth o.rows.now → Decides t (ListsAlike a b r.networks r.depth r.rows.now o.depth o.rows.now))
+      → ((a b : List Rule) → Right a r.sheets.networks r.sheets.depth r.sheets.rows.now → Right b r.sheets.networks o.sheets.depth o.sheets.rows.now → Decides t (ListsAlike a b r.sheets.networks r.sheets.depth r.sheets.rows.now o.sheets.depth o.sheets.rows.now))
       → Decides t (ListAlike r o)
   compared t told =
       let e = both.networks in
       let Like : ℕ → Type 0 =
-      λ n. (from to : ℕ) → from ≤ r.networks → to ≤ r.networks
-      → outline place_of (runs_of r from to) ≡ outline place_of (runs_at (rules_of o) n o.depth o.rows.now from to) in
-      Decides-like t (λ (x : Like r.networks). subst Like e x) (λ (y : Like o.networks). subst Like (sym e) y)
-      (told (rules_of r) (rules_of o) (right_of r both.ready) (subst (λ (n : ℕ). Right (rules_of o) n o.depth o.rows.now) (sym e) (right_of o both.ready_too)))
+      λ n. (from to : ℕ) → from ≤ r.sheets.networks → to ≤ r.sheets.networks
+      → outline place_of (runs_of r from to) ≡ outline place_of (runs_at (rules_of o) n o.sheets.depth o.sheets.rows.now from to) in
+      Decides-like t (λ (x : Like r.sheets.networks). subst Like e x) (λ (y : Like o.sheets.networks). subst Like (sym e) y)
+      (told (rules_of r) (rules_of o) (right_of r both.ready) (subst (λ (n : ℕ). Right (rules_of o) n o.sheets.depth o.sheets.rows.now) (sym e) (right_of o both.ready_too)))
 
 -- every network has an address
 every_network : (size : ℕ) (ds : List Declaration) → Taken size (names_of ds) (network_of ds) → (n : ℕ) → n ≤ length (names_of ds) → (x : ℕ) × (x < size) × (network_of ds x ≡ n)
@@ -95,7 +95,7 @@ module _ (rules others : List Rule) (size rows : ℕ) (ds : List Declaration) (s
             ap action_of (same_decider p q 0 few fits (lit< tt) f rules from to) ∙ at_service alike from to a b p 0 few (lit< tt) (λ _. refl) ∙ sym (ap action_of (same_decider p q 0 few fits (lit< tt) f others from to))
       ])
 
-module _ (r o : Ruleset) (both : Comparable r o) (size rows : ℕ) (ds : List Declaration) (some : 0 < size) (accepts : Accepts size rows [] ds) (long : length (names_of ds) ≡ r.networks) where
+module _ (r o : Ruleset) (both : Comparable r o) (size rows : ℕ) (ds : List Declaration) (some : 0 < size) (accepts : Accepts size rows [] ds) (long : length (names_of ds) ≡ r.sheets.networks) where
   pub runs_packets : ListAlike r o → DecideAlike size ds (rules_of r) (rules_of o)
   runs_packets alike = services_packets (rules_of r) (rules_of o) size rows ds some accepts (λ from to a b. runs_services r o both alike from to (omega arith) (omega arith))
 

@@ -41,8 +41,8 @@ insert_cause g at rule =
     (cond (nat_lt (length g.rules) at) (Some PositionTooHigh)
     (cond (end_known rule.from g.networks && end_known rule.to g.networks) None (Some WrongNetwork)))))
 
--- the list, unless there is a cause against it
-abbrev pub unless : Option Refusal → List Rule → Edit
+-- the value, unless there is a cause against it
+abbrev pub unless : {A : Type 0} → Option Refusal → A → Result A Refusal
 unless None next = Ok next
 unless (Some cause) next = Err cause
 

@@ -9,7 +9,7 @@ use line::Point;
 use packet::Packet;
 use plan::Plan;
 use refusal::Refusal;
-use rules::Action;
+use rules::{Action, Pair};
 
 impl<'a> Ruleset<'a> {
     // What the rules decide of a packet between the networks of a plan; none where no rule in force covers it.
@@ -20,23 +20,17 @@ impl<'a> Ruleset<'a> {
     ) -> Result<Option<Action>, Refusal>
         ensures { (by : Planned) → Sees A.Point.place A.Point.size by plan.now → result ≡ decide_answer (register_of self.now) by (head_of A.Point.place packet.now) }
     {
-        if !self.ready {
-            return Err(Refusal::Shut);
-        }
+        self.check_ready()?;
         if plan.is_shut() {
             return Err(Refusal::Shut);
         }
-        if plan.networks() != self.networks {
+        if plan.networks() != self.sheets.networks {
             return Err(Refusal::WrongNetwork);
         }
         let from = plan.network_of(&packet.source())?;
         let to = plan.network_of(&packet.destination())?;
-        if from > self.networks {
-            return Err(Refusal::WrongNetwork);
-        }
-        if to > self.networks {
-            return Err(Refusal::WrongNetwork);
-        }
-        Ok(self.decision_at(from, to, &packet.service()))
+        let pair = Pair { from, to };
+        self.check_pair(pair)?;
+        Ok(self.decision_at(pair, &packet.service()))
     }
 }

@@ -1,17 +1,16 @@
 // What a ruleset tells: its sizes, its rules, and the runs of a pair.
-ghost use Rattle.std.specs.Prelude.{◌≡◌, ◌≤◌, true, false, not, MatchResult};
-ghost use Rattle.refusal.specs.declared.refusal.Refusal.TheVariants as cause;
+ghost use Rattle.std.specs.Prelude.{◌≡◌, true, not};
 ghost use Rattle.rules.specs.Decisions.{decision};
 ghost use Rattle.service.specs.Spans.{place_of};
-ghost use Rattle.ruleset.specs.Registers.{pair_cause};
-ghost use Rattle.ruleset.specs.Views.{register_of, rules_of, runs_of, ToldRuns};
+ghost use Rattle.sheets.specs.Tables.{HasPair};
+ghost use Rattle.ruleset.specs.Views.{rules_of, runs_of, ToldRuns};
 
 use crate::Ruleset;
 use line::{line_of, look_up};
 use refusal::Refusal;
-use rules::{Action, Rule};
+use rules::{Action, Pair, Rule};
 use service::Service;
-use sheets::{SheetRow, strip_of};
+use sheets::SheetRow;
 
 impl<'a> Ruleset<'a> {
     // Whether the ruleset was opened with sizes that a ruleset may not have.
@@ -23,16 +22,16 @@ impl<'a> Ruleset<'a> {
 
     // How many named networks there are.
     pub fn networks(&self) -> u8
-        ensures { result ≡ self.now.networks }
+        ensures { result ≡ self.now.sheets.networks }
     {
-        self.networks
+        self.sheets.networks
     }
 
     // How many rows each strip has.
     pub fn depth(&self) -> usize
-        ensures { result ≡ self.now.depth }
+        ensures { result ≡ self.now.sheets.depth }
     {
-        self.depth
+        self.sheets.depth
     }
 
     // The rules, in their order.
@@ -42,50 +41,29 @@ impl<'a> Ruleset<'a> {
         self.rules.rules()
     }
 
-    // The first cause against a question about a pair.
-    fn cause_of_pair(&self, from: u8, to: u8) -> Option<Refusal>
-        ensures { result ≡ pair_cause (register_of self.now) from to }
-    {
-        if !self.ready {
-            return Some(Refusal::Shut);
-        }
-        if from > self.networks {
-            return Some(Refusal::WrongNetwork);
-        }
-        if to > self.networks {
-            return Some(Refusal::WrongNetwork);
-        }
-        None
-    }
-
     // The runs of a pair that is there.
-    fn runs_at(&self, from: u8, to: u8) -> &[SheetRow]
+    fn runs_at(&self, pair: Pair) -> &[SheetRow]
         requires ready { self.now.ready ≡ true }
-        requires inside { (from ≤ self.now.networks) × (to ≤ self.now.networks) }
-        ensures { result.now ≡ runs_of self.now from to }
+        requires inside { HasPair self.now.sheets.networks pair }
+        ensures { result.now ≡ runs_of self.now pair.from pair.to }
     {
-        line_of(strip_of(self.rows, self.networks, self.depth, from, to))
+        line_of(self.sheets.strips().strip_of(pair))
     }
 
     // The runs listed for a pair of networks.
-    pub fn runs(&self, from: u8, to: u8) -> Result<&[SheetRow], Refusal>
-        ensures { ToldRuns self.now from to result }
+    pub fn runs(&self, pair: Pair) -> Result<&[SheetRow], Refusal>
+        ensures { ToldRuns self.now pair.from pair.to result }
     {
-        if let Some(cause) = self.cause_of_pair(from, to) {
-            return Err(cause);
-        }
-        Ok(self.runs_at(from, to))
+        self.check_pair(pair)?;
+        Ok(self.runs_at(pair))
     }
 
     // What the rules decide of a service between two networks that are there, read from their sheet.
-    pub(crate) fn decision_at(&self, from: u8, to: u8, service: &Service) -> Option<Action>
+    pub(crate) fn decision_at(&self, pair: Pair, service: &Service) -> Option<Action>
         requires ready { self.now.ready ≡ true }
-        requires inside { (from ≤ self.now.networks) × (to ≤ self.now.networks) }
-        ensures { result ≡ decision (rules_of self.now) from to (place_of service.now) }
+        requires inside { HasPair self.now.sheets.networks pair }
+        ensures { result ≡ decision (rules_of self.now) pair.from pair.to (place_of service.now) }
     {
-        let Some(label) = look_up(self.runs_at(from, to), service) else {
-            unreachable()
-        };
-        label
+        look_up(self.runs_at(pair), service).unwrap()
     }
 }

@@ -7,35 +7,25 @@ ghost use Rattle.ruleset.specs.Views.{register_of, SheetsRight};
 use crate::Ruleset;
 use refusal::Refusal;
 use rules::Scope;
-use sheets::{SheetRow, draw_sheets};
+use sheets::{SheetRow, Sheets};
 use table::RuleTable;
 
-// Whether a ruleset may have these sizes.
+// Whether a ruleset may have these sizes. A struct of them is no plainer: they come one by one from the caller, and after this test they are those of `Sheets`.
 fn fits(networks: u8, depth: usize, rows: usize) -> bool
     ensures { result ≡ sizes_fit networks depth rows }
 {
-    if networks > 24 {
-        return false;
-    }
-    if depth < 1 {
-        return false;
-    }
-    if depth > 64 {
-        return false;
-    }
     let side = networks as usize + 1;
-    rows == side * side * depth
+    networks <= 24 && (1..=64).contains(&depth) && rows == side * side * depth
 }
 
 // Whether a ruleset may have these sizes: at most 24 named networks, a depth of 1 to 64, and `depth` rows for each pair.
 pub fn check_sizes(networks: u8, depth: usize, rows: usize) -> Result<(), Refusal>
     ensures { MatchResult result (λ _. sizes_fit networks depth rows ≡ true) (λ e. (e ≡ WrongSize) × (sizes_fit networks depth rows ≡ false)) }
 {
-    if fits(networks, depth, rows) {
-        Ok(())
-    } else {
-        Err(Refusal::WrongSize)
+    if !fits(networks, depth, rows) {
+        return Err(Refusal::WrongSize);
     }
+    Ok(())
 }
 
 impl<'a> Ruleset<'a> {
@@ -43,26 +33,23 @@ impl<'a> Ruleset<'a> {
     pub fn open(rows: &'a mut [SheetRow], networks: u8, depth: usize) -> Ruleset<'a>
         ensures opens { register_of result ≡ opened networks depth (length rows.old) }
         ensures sheets { SheetsRight result }
-        ensures shut { result.ready ≡ false → result.rows.now ≡ rows.old }
-        ensures lent { result.rows.ghost_name ≡ rows.entry.ghost_name }
+        ensures shut { result.ready ≡ false → result.sheets.rows.now ≡ rows.old }
+        ensures lent { result.sheets.rows.ghost_name ≡ rows.entry.ghost_name }
     {
+        let ready = fits(networks, depth, rows.len());
         let rules = RuleTable::new();
-        if !fits(networks, depth, rows.len()) {
-            return Ruleset {
-                ready: false,
-                networks,
-                depth,
-                rules,
-                rows,
-            };
-        }
-        draw_sheets(rows, rules.rules(), networks, depth, &Scope::all());
-        Ruleset {
-            ready: true,
+        let mut sheets = Sheets {
             networks,
             depth,
-            rules,
             rows,
+        };
+        if ready {
+            sheets.draw(rules.rules(), &Scope::all());
+        }
+        Ruleset {
+            ready,
+            rules,
+            sheets,
         }
     }
 }

@@ -3,16 +3,15 @@ ghost use Rattle.std.specs.Prelude.{◌≡◌, true};
 ghost use Rattle.sheets.specs.Strips.{Right};
 ghost use Rattle.table.specs.Held.{held};
 
-use sheets::SheetRow;
+use sheets::Sheets;
 use table::RuleTable;
 
-// Rules over so many named networks, and in the rows that the caller lends the sheets, each in a strip of `depth` rows. A ruleset that is not ready is shut.
+// Rules, and their sheets in the rows that the caller lends. A ruleset that is not ready is shut.
 #[derive(Drop)]
 pub struct Ruleset<'a> {
+    // A flag and no enum: a ruleset that is shut tells its sizes too and keeps the rows, so that both states would have these same fields, and so would a type of open rulesets, for which three functions ask by a clause.
     pub(crate) ready: bool,
-    pub(crate) networks: u8,
-    pub(crate) depth: usize,
     pub(crate) rules: RuleTable,
-    pub(crate) rows: &'a mut [SheetRow],
-    ghost sound: { (ready ≡ true → ∥ Right (held rules) networks depth rows.now ∥₁) },
+    pub(crate) sheets: Sheets<'a>,
+    ghost sound: { (ready ≡ true → ∥ Right (held rules) sheets.networks sheets.depth sheets.rows.now ∥₁) },
 }
