@@ -1,2 +1,3 @@
-pub mod Putting
+pub mod Parts
 pub mod Ending
+pub mod Printing

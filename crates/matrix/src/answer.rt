@@ -10,7 +10,7 @@ use planload::load_plan;
 use planwrite::write_plan;
 use refusal::Refusal;
 
-// What the first bytes of the buffer are: so many bytes of a plan, or of a fault line.
+// What the first bytes of the buffer are: so many bytes of a plan, or of a fault line. No `Result`, since a fault line is what is printed and no refusal, and counts and no lent parts, since the contract tells what the whole buffer holds afterwards.
 #[derive(Clone, Copy)]
 pub enum Answer {
     Plan(usize),
@@ -27,13 +27,7 @@ pub fn plan_answer<A: Address>(
 {
     let mut plan = Plan::open(rows);
     match load_plan(&mut plan, text) {
-        Ok(()) => match write_plan(&plan, out) {
-            Ok(count) => Ok(Answer::Plan(count)),
-            Err(refusal) => Err(refusal),
-        },
-        Err(fault) => match write_fault(TextKind::Plan, &fault, out) {
-            Ok(count) => Ok(Answer::Fault(count)),
-            Err(refusal) => Err(refusal),
-        },
+        Ok(()) => write_plan(&plan, out).map(Answer::Plan),
+        Err(fault) => write_fault(TextKind::Plan, &fault, out).map(Answer::Fault),
     }
 }

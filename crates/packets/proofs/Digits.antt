@@ -1,6 +1,7 @@
 -- The hexadecimal digits of bytes, place by place.
-use Rattle.std.proofs.Common.{◌≡◌, ℕ, zero, suc, ◌+◌, ◌*◌, ◌/◌, ◌%◌, ◌<◌, List, [], ◌∷◌, ◌++◌, length, get_or, take, sym, refl, ap, ◌∙◌, append_assoc, le_of_suc-le-suc, not-suc-le-zero, arith}
-use Rattle.std.proofs.lemmas.List.{take_more}
+use Rattle.std.proofs.Common.{◌≡◌, ℕ, zero, suc, ◌+◌, ◌*◌, ◌/◌, ◌%◌, ◌<◌, List, [], ◌∷◌, ◌++◌, length, get_or, take, drop, sym, refl, ap, ◌∙◌, append_assoc, le_of_suc-le-suc, not-suc-le-zero, arith}
+use Rattle.std.proofs.lemmas.List.{take_more, drop-drop, get_or-take, get_or-drop}
+use Rattle.std.specs.Simd.{first_chunks}
 use Rattle.text.specs.Parts.{Lacks}
 use Rattle.address.specs.Texts.{digit}
 use Rattle.address.specs.Groups.{digit_high}
@@ -10,6 +11,27 @@ use Rattle.packets.specs.Rows.{hexed}
 pub length_hexed : (bytes : List ℕ) → length (hexed bytes) ≡ 2 * length bytes
 length_hexed [] = refl
 length_hexed (b ∷ bytes) = let e = length_hexed bytes in omega arith
+
+-- the pair of digits at a place, among pairs
+pair_at : (digits : List ℕ) (k i : ℕ) (d : List ℕ) → i < k → get_or (first_chunks 2 k digits) i d ≡ take 2 (drop (2 * i) digits)
+pair_at digits zero i d h = absurd (not-suc-le-zero h)
+pair_at digits (suc k) zero d h = refl
+pair_at digits (suc k) (suc i) d h =
+    let two : 2 + 2 * i ≡ 2 * suc i = omega arith in
+    pair_at (drop 2 digits) k i d (le_of_suc-le-suc h) ∙ ap (λ (q : List ℕ). take 2 q) (drop-drop (2 * i) 2 digits ∙ ap (λ (n : ℕ). drop n digits) two)
+
+-- its first digit
+pub first_of : (pairs : List (List ℕ)) (digits : List ℕ) (k i : ℕ) (d : List ℕ) → pairs ≡ first_chunks 2 k digits → i < k → get_or (get_or pairs i d) 0 0 ≡ get_or digits (2 * i) 0
+first_of pairs digits k i d is h =
+    let none : 2 * i + 0 ≡ 2 * i = omega arith in
+    ap (λ (ps : List (List ℕ)). get_or (get_or ps i d) 0 0) is
+    ∙ (ap (λ (q : List ℕ). get_or q 0 0) (pair_at digits k i d h) ∙ (get_or-take 2 (drop (2 * i) digits) 0 0 (omega arith) ∙ (get_or-drop (2 * i) digits 0 0 ∙ ap (λ (n : ℕ). get_or digits n 0) none)))
+
+-- and its second
+pub second_of : (pairs : List (List ℕ)) (digits : List ℕ) (k i : ℕ) (d : List ℕ) → pairs ≡ first_chunks 2 k digits → i < k → get_or (get_or pairs i d) 1 0 ≡ get_or digits (2 * i + 1) 0
+second_of pairs digits k i d is h =
+    ap (λ (ps : List (List ℕ)). get_or (get_or ps i d) 1 0) is
+    ∙ (ap (λ (q : List ℕ). get_or q 1 0) (pair_at digits k i d h) ∙ (get_or-take 2 (drop (2 * i) digits) 1 0 (omega arith) ∙ get_or-drop (2 * i) digits 1 0))
 
 -- the high digit of a byte
 pub high_at : (bytes : List ℕ) (i : ℕ) → i < length bytes → get_or (hexed bytes) (2 * i) 0 ≡ digit (get_or bytes i 0 / 16)

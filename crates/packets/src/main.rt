@@ -6,6 +6,7 @@ mod hex;
 mod judging;
 mod row;
 
+use answer::ANSWER;
 use judging::judge_row;
 use std::io::Write;
 use std::{fs, io};
@@ -14,19 +15,17 @@ use text::Rows;
 // Prints the answer for each row, and last how many are as told.
 fn main(rt: HostRuntime) -> io::Result<()> {
     let file = fs::read(&rt, "packets.txt")?;
-    let mut rows = Rows::new(file.as_slice());
     let mut agreed = 0usize;
     let mut judged = 0usize;
-    while let Some(row) = rows.next() {
+    for row in Rows::new(file.as_slice()) {
         if row.is_passed_over() {
             continue;
         }
-        let mut line = [0u8; 96];
+        let mut line = [0u8; ANSWER];
         judged = judged.saturating_add(1);
         match judge_row(row.bytes, &mut line) {
             Some(verdict) => {
-                let end = verdict.end;
-                rt.stdout().write_all(&line[0..end])?;
+                rt.stdout().write_all(&line[..verdict.end])?;
                 if verdict.agrees {
                     agreed = agreed.saturating_add(1);
                     println!(rt; ",agrees")?;

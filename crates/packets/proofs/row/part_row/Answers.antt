@@ -1,32 +1,14 @@
--- A row has one first comma, and what follows it has one.
-use Rattle.std.proofs.Common.{ℕ, List, [], ◌∷◌, ◌++◌, sym, ap, ◌∙◌, arith}
+-- What follows the kind and its comma has one first comma.
+use Rattle.std.proofs.Common.{◌≡◌, ℕ, List, drop, ap, ◌∙◌, subst}
+use Rattle.std.proofs.lemmas.List.{take_rest}
 use Rattle.text.specs.Parts.{Lacks}
-use Rattle.text.proofs.Cutting.{same_cut, no_cut}
-use Rattle.packets.specs.Rows.{mark}
-use Rattle.packets.specs.declared.row.Kind.{Kind}
-use Rattle.packets.specs.declared.row.Kind.TheVariants.{Four, Six}
+use Rattle.text.proofs.Cutting.{no_cut}
 use Rattle.packets.proofs.row.part_row.Goals as goal
+use Rattle.packets.proofs.row.part_row.Goals.{in-52, in-54}
 
-plain : (kind : Kind) → Lacks 44 (mark kind ∷ [])
-plain Four = ((λ e. omega arith), tt)
-plain Six = ((λ e. omega arith), tt)
-
-pub returns-in_default : goal.returns-in_default
-returns-in_default c kind digits told l e = no_cut 44 c.args.row.now (mark kind ∷ []) (digits ++ (44 ∷ told)) c.in_default.ensures e
-
-pub returns-in_default-read_kind : goal.returns-in_default-read_kind
-returns-in_default-read_kind c kind digits told l e =
-    let f = c.in-Some.ensures in
-    c.in_default-read_kind.ensures kind (same_cut 44 (mark kind ∷ []) c.in-Some.first.front.now (digits ++ (44 ∷ told)) c.in-Some.first.rest.now (plain kind) f.first (e ∙ f.whole)).0
-
-pub returns-in_default-cut : goal.returns-in_default-cut
-returns-in_default-cut c kind digits told l e =
-    let f = c.in-Some.ensures in
-    no_cut 44 c.in-Some.first.rest.now digits told c.in_default-cut.ensures
-    (same_cut 44 (mark kind ∷ []) c.in-Some.first.front.now (digits ++ (44 ∷ told)) c.in-Some.first.rest.now (plain kind) f.first (e ∙ f.whole)).1
-
-pub returns : goal.returns
-returns c =
-    let f = c.in-Some.ensures in
-    let s = c.in-Some-cut.ensures in
-    (s.first, ap (λ (q : List ℕ). mark c.in-Some-read_kind.kind ∷ (44 ∷ q)) (sym s.whole) ∙ (ap (λ (q : List ℕ). q ++ (44 ∷ c.in-Some.first.rest.now)) c.in-Some-read_kind.ensures ∙ sym f.whole))
+pub returns-in_err-parts : goal.returns-in_err-parts
+returns-in_err-parts c =
+    let row = c.args.row.now in
+    let rest : c.match-row.kind.1.now ≡ drop 2 row = elim c.match-row.branch [ in-52 w ↦ ap (λ p. p.1.now) w.kind-is ∙ take_rest row 2 | in-54 w ↦ ap (λ p. p.1.now) w.kind-is ∙ take_rest row 2 ] in
+    rw c.from_residual.ensures
+    (λ kind digits told l e. no_cut 44 (drop 2 row) digits told (subst (λ (q : List ℕ). Lacks 44 q) rest c.in_err-parts.ensures) (ap (λ (q : List ℕ). drop 2 q) e))
