@@ -1,14 +1,14 @@
 // Fields of a declaration that are no names and no addresses.
-use crate::telling::{Ending, FINE, held, loaded, unwritten, unwritten6};
+use crate::telling::{Ending, FINE, held, loaded, refuses_each, unwritten, unwritten6};
 use plan::Plan;
 use std::alloc::{AllocError, Global};
 use std::test::Fail;
 
-const NO_NAME: Ending = (1, 18, 1, 2);
+const NO_NAME: Ending = Err((1, 18, 1, 2));
 
-const NO_LOW: Ending = (1, 18, 1, 3);
+const NO_LOW: Ending = Err((1, 18, 1, 3));
 
-const NO_HIGH: Ending = (1, 18, 1, 4);
+const NO_HIGH: Ending = Err((1, 18, 1, 4));
 
 const FIELDS: [(&[u8], Ending); 18] = [
     (b"net,,0.0.0.1,0.0.0.2", NO_NAME),
@@ -41,12 +41,7 @@ const FIELDS: [(&[u8], Ending); 18] = [
 fn the_first_malformed_field_from_the_left_is_told(rt: HostRuntime) -> Result<(), Fail> {
     let mut rows = [unwritten(); 4];
     let mut plan = Plan::open(&mut rows);
-    let before = held(&plan)?;
-    for case in FIELDS {
-        assert_eq!(rt; loaded(&mut plan, case.0), case.1);
-    }
-    assert_eq!(rt; held(&plan)?, before);
-    Ok(())
+    refuses_each(rt.alloc(), &mut plan, &FIELDS)
 }
 
 #[test]
@@ -62,9 +57,7 @@ fn a_name_of_twelve_bytes_is_taken_in(rt: HostRuntime) {
 // A row with a digit that stands 400 times between two texts.
 fn long_row(heap: Global, front: &[u8], digit: u8, back: &[u8]) -> Result<Vec<u8>, AllocError> {
     let mut row = front.to_vec(heap)?;
-    for _ in 0..400 {
-        row.push(digit)?;
-    }
+    row.extend_from_slice(&[digit; 400])?;
     row.extend_from_slice(back)?;
     Ok(row)
 }
@@ -80,14 +73,14 @@ const LONG: [(&[u8], &[u8], Ending); 4] = [
 fn numbers_of_hundreds_of_digits_are_refused(rt: HostRuntime) -> Result<(), Fail> {
     let mut rows = [unwritten(); 4];
     let mut plan = Plan::open(&mut rows);
-    let before = held(&plan)?;
+    let before = held(rt.alloc(), &plan)?;
     for (front, back, wanted) in LONG {
         let nines = long_row(rt.alloc(), front, b'9', back)?;
         assert_eq!(rt; loaded(&mut plan, &nines), wanted);
         let zeros = long_row(rt.alloc(), front, b'0', back)?;
         assert_eq!(rt; loaded(&mut plan, &zeros), wanted);
     }
-    assert_eq!(rt; held(&plan)?, before);
+    assert_eq!(rt; held(rt.alloc(), &plan)?, before);
     Ok(())
 }
 
@@ -108,10 +101,5 @@ const WIDE: [(&[u8], Ending); 4] = [
 fn an_ipv6_plan_takes_only_whole_addresses_in_lower_case(rt: HostRuntime) -> Result<(), Fail> {
     let mut rows = [unwritten6(); 4];
     let mut plan = Plan::open(&mut rows);
-    let before = held(&plan)?;
-    for case in WIDE {
-        assert_eq!(rt; loaded(&mut plan, case.0), case.1);
-    }
-    assert_eq!(rt; held(&plan)?, before);
-    Ok(())
+    refuses_each(rt.alloc(), &mut plan, &WIDE)
 }

@@ -16,21 +16,21 @@ const TEXTS: [(&[u8], Ending, &[u8]); 11] = [
         FINE,
         b"net,b,0.0.0.3,0.0.0.4\nnet,a,0.0.0.1,0.0.0.2\n",
     ),
-    (b"\n#\n\nx\n", (2, 17, 4, 0), b""),
-    (b"\n#\n\nx", (2, 17, 4, 0), b""),
+    (b"\n#\n\nx\n", Err((2, 17, 4, 0)), b""),
+    (b"\n#\n\nx", Err((2, 17, 4, 0)), b""),
     (
         b"net,a,0.0.0.1,0.0.0.2\n\n# x\nnet,b,0.0.0.5,0.0.0.\nnet,c,0.0.0.7,0.0.0.8\n",
-        (1, 18, 4, 4),
+        Err((1, 18, 4, 4)),
         b"net,a,0.0.0.1,0.0.0.2\n",
     ),
     (
         b"net,a,0.0.0.1,0.0.0.2\nnet,b,0.0.0.2,0.0.0.3\nnet,c,0.0.0.7,0.0.0.8\n",
-        (3, 11, 2, 0),
+        Err((3, 11, 2, 0)),
         b"net,a,0.0.0.1,0.0.0.2\n",
     ),
     (
         b"net,a,0.0.0.1,0.0.0.2\n\n\nnet,b,0.0.0.9,0.0.0.8\nx\n",
-        (2, 10, 4, 0),
+        Err((2, 10, 4, 0)),
         b"net,a,0.0.0.1,0.0.0.2\n",
     ),
 ];
@@ -47,10 +47,7 @@ fn rows_are_declared_up_to_the_line_of_the_fault(rt: HostRuntime) {
 
 // A text of this many bytes: a long comment, and then a row of 22 bytes.
 fn long_text(heap: Global, length: usize) -> Result<Vec<u8>, AllocError> {
-    let mut text = Vec::new(heap);
-    for _ in 23..length {
-        text.push(b'#')?;
-    }
+    let mut text = vec![in heap; b'#'; length.saturating_sub(23)]?;
     text.extend_from_slice(b"\nnet,a,0.0.0.1,0.0.0.2\n")?;
     Ok(text)
 }
@@ -59,11 +56,11 @@ fn long_text(heap: Global, length: usize) -> Result<Vec<u8>, AllocError> {
 fn a_text_may_have_16384_bytes_and_no_more(rt: HostRuntime) -> Result<(), Fail> {
     let mut rows = [unwritten(); 8];
     let mut plan = Plan::open(&mut rows);
-    let before = held(&plan)?;
+    let before = held(rt.alloc(), &plan)?;
     let over = long_text(rt.alloc(), 16385)?;
     assert_eq!(rt; over.len(), 16385);
-    assert_eq!(rt; loaded(&mut plan, &over), (3, 22, 0, 0));
-    assert_eq!(rt; held(&plan)?, before);
+    assert_eq!(rt; loaded(&mut plan, &over), Err((3, 22, 0, 0)));
+    assert_eq!(rt; held(rt.alloc(), &plan)?, before);
     let longest = long_text(rt.alloc(), 16384)?;
     assert_eq!(rt; longest.len(), 16384);
     assert_eq!(rt; loaded(&mut plan, &longest), FINE);

@@ -4,15 +4,15 @@ use address::Ipv4;
 use plan::Plan;
 use std::test::Fail;
 
-const REVERSED: Ending = (2, 10, 1, 0);
+const REVERSED: Ending = Err((2, 10, 1, 0));
 
-const TAKEN: Ending = (3, 11, 1, 0);
+const TAKEN: Ending = Err((3, 11, 1, 0));
 
 const RANGES: [(&[u8], Ending); 13] = [
     (b"net,a,0.0.0.2,0.0.0.1", REVERSED),
     (b"net,b,0.0.0.20,0.0.0.10", REVERSED),
     (b"net,b,255.255.255.255,0.0.0.0", REVERSED),
-    (b"net,B,0.0.0.20,0.0.0.10", (1, 18, 1, 2)),
+    (b"net,B,0.0.0.20,0.0.0.10", Err((1, 18, 1, 2))),
     (b"net,b,0.0.0.5,0.0.0.10", TAKEN),
     (b"net,b,0.0.0.20,0.0.0.25", TAKEN),
     (b"net,b,0.0.0.15,0.0.0.15", TAKEN),
@@ -29,12 +29,15 @@ fn reversed_and_taken_ranges_are_refused_before_a_full_table(rt: HostRuntime) ->
     let mut rows = [unwritten(); 3];
     let mut plan = Plan::open(&mut rows);
     assert_eq!(rt; loaded(&mut plan, b"net,a,0.0.0.10,0.0.0.20"), FINE);
-    let before = held(&plan)?;
-    for case in RANGES {
-        assert_eq!(rt; loaded(&mut plan, case.0), case.1);
+    let before = held(rt.alloc(), &plan)?;
+    for (text, wanted) in RANGES {
+        assert_eq!(rt; loaded(&mut plan, text), wanted);
     }
-    assert_eq!(rt; loaded(&mut plan, b"net,b,0.0.0.5,0.0.0.9"), (3, 12, 1, 0));
-    assert_eq!(rt; held(&plan)?, before);
+    assert_eq!(rt;
+        loaded(&mut plan, b"net,b,0.0.0.5,0.0.0.9"),
+        Err((3, 12, 1, 0))
+    );
+    assert_eq!(rt; held(rt.alloc(), &plan)?, before);
     Ok(())
 }
 
@@ -59,7 +62,7 @@ fn ranges_of_one_network_that_touch_become_one_run(rt: HostRuntime) {
     let mut rows = [unwritten(); 9];
     let mut plan = Plan::open(&mut rows);
     for (name, low, high, runs) in TOUCHING {
-        assert_eq!(rt; declared(&mut plan, name, low, high), 0);
+        assert_eq!(rt; declared(&mut plan, name, low, high), None);
         assert_eq!(rt; plan.runs().len(), runs);
     }
     assert!(rt; writes(&plan, MERGED));

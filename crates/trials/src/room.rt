@@ -7,16 +7,16 @@ use std::test::Fail;
 const LAST: u32 = u32::MAX;
 
 // The rows of a plan, the first and the last address of its first range, and the number of the cause.
-const FIRST_RANGES: [(usize, u32, u32, u8); 9] = [
-    (1, 0, LAST, 13),
-    (1, 0, LAST - 1, 12),
-    (1, 1, LAST, 12),
-    (1, 5, 5, 12),
-    (2, 0, LAST, 13),
-    (2, 5, 6, 12),
-    (2, 0, LAST - 1, 0),
-    (2, 1, LAST, 0),
-    (3, 5, 6, 0),
+const FIRST_RANGES: [(usize, u32, u32, Option<u8>); 9] = [
+    (1, 0, LAST, Some(13)),
+    (1, 0, LAST - 1, Some(12)),
+    (1, 1, LAST, Some(12)),
+    (1, 5, 5, Some(12)),
+    (2, 0, LAST, Some(13)),
+    (2, 5, 6, Some(12)),
+    (2, 0, LAST - 1, None),
+    (2, 1, LAST, None),
+    (3, 5, 6, None),
 ];
 
 #[test]
@@ -25,9 +25,9 @@ fn a_first_range_leaves_an_address_and_finds_rows(rt: HostRuntime) -> Result<(),
         let mut rows = [unwritten(); 3];
         assert!(rt; count <= 3);
         let mut plan = Plan::open(&mut rows[0..count]);
-        let before = held(&plan)?;
+        let before = held(rt.alloc(), &plan)?;
         assert_eq!(rt; declared(&mut plan, b"a", low, high), wanted);
-        assert_eq!(rt; held(&plan)? == before, wanted != 0);
+        assert_eq!(rt; held(rt.alloc(), &plan)? == before, wanted.is_some());
     }
     Ok(())
 }
@@ -36,24 +36,24 @@ fn a_first_range_leaves_an_address_and_finds_rows(rt: HostRuntime) -> Result<(),
 fn the_last_free_address_stays_elsewhere(rt: HostRuntime) -> Result<(), Fail> {
     let mut rows = [unwritten(); 2];
     let mut plan = Plan::open(&mut rows);
-    assert_eq!(rt; declared(&mut plan, b"a", 0, LAST - 1), 0);
-    let before = held(&plan)?;
-    assert_eq!(rt; declared(&mut plan, b"a", LAST, LAST), 13);
-    assert_eq!(rt; declared(&mut plan, b"b", LAST, LAST), 13);
-    assert_eq!(rt; declared(&mut plan, b"b", 0, LAST), 11);
-    assert_eq!(rt; held(&plan)?, before);
+    assert_eq!(rt; declared(&mut plan, b"a", 0, LAST - 1), None);
+    let before = held(rt.alloc(), &plan)?;
+    assert_eq!(rt; declared(&mut plan, b"a", LAST, LAST), Some(13));
+    assert_eq!(rt; declared(&mut plan, b"b", LAST, LAST), Some(13));
+    assert_eq!(rt; declared(&mut plan, b"b", 0, LAST), Some(11));
+    assert_eq!(rt; held(rt.alloc(), &plan)?, before);
     assert_eq!(rt; plan.network_of(&Ipv4::new(LAST))?, 0);
     Ok(())
 }
 
 // The name, the first and the last address of a range, the number of the cause, and the runs after it.
-const STEPS: [(&[u8], u32, u32, u8, usize); 6] = [
-    (b"a", 10, 20, 0, 3),
-    (b"b", 30, 40, 0, 5),
-    (b"c", 50, 60, 12, 5),
-    (b"c", 21, 28, 12, 5),
-    (b"b", 41, 60, 0, 5),
-    (b"d", 21, 29, 0, 5),
+const STEPS: [(&[u8], u32, u32, Option<u8>, usize); 6] = [
+    (b"a", 10, 20, None, 3),
+    (b"b", 30, 40, None, 5),
+    (b"c", 50, 60, Some(12), 5),
+    (b"c", 21, 28, Some(12), 5),
+    (b"b", 41, 60, None, 5),
+    (b"d", 21, 29, None, 5),
 ];
 
 const FULL: &[u8] = b"net,a,0.0.0.10,0.0.0.20\nnet,b,0.0.0.30,0.0.0.60\nnet,d,0.0.0.21,0.0.0.29\n";
@@ -74,12 +74,12 @@ fn the_largest_table_fills_to_its_last_row(rt: HostRuntime) -> Result<(), Fail> 
     let mut rows = unwritten_rows(rt.alloc(), 4096)?;
     let mut plan = Plan::open(&mut rows);
     for i in 0..2048u32 {
-        assert_eq!(rt; declared(&mut plan, b"a", 2 * i, 2 * i), 0);
+        assert_eq!(rt; declared(&mut plan, b"a", 2 * i, 2 * i), None);
     }
     assert_eq!(rt; plan.runs().len(), 4096);
-    assert_eq!(rt; declared(&mut plan, b"a", 4096, 4096), 12);
+    assert_eq!(rt; declared(&mut plan, b"a", 4096, 4096), Some(12));
     assert_eq!(rt; plan.runs().len(), 4096);
-    assert_eq!(rt; declared(&mut plan, b"a", 1, 1), 0);
+    assert_eq!(rt; declared(&mut plan, b"a", 1, 1), None);
     assert_eq!(rt; plan.runs().len(), 4094);
     Ok(())
 }
@@ -93,9 +93,12 @@ fn a_plan_takes_in_twenty_four_names(rt: HostRuntime) -> Result<(), Fail> {
         assert_eq!(rt; plan.declare(&[b'a' + i], at, at)?, i + 1);
     }
     let runs = plan.runs().len();
-    assert_eq!(rt; loaded(&mut plan, b"net,y,0.0.1.0,0.0.1.0"), (3, 20, 1, 0));
-    assert_eq!(rt; declared(&mut plan, b"y", 0, 0), 20);
-    assert_eq!(rt; declared(&mut plan, b"y", 1, 0), 10);
+    assert_eq!(rt;
+        loaded(&mut plan, b"net,y,0.0.1.0,0.0.1.0"),
+        Err((3, 20, 1, 0))
+    );
+    assert_eq!(rt; declared(&mut plan, b"y", 0, 0), Some(20));
+    assert_eq!(rt; declared(&mut plan, b"y", 1, 0), Some(10));
     assert_eq!(rt; plan.networks(), 24);
     assert_eq!(rt; plan.runs().len(), runs);
     assert_eq!(rt; plan.declare(b"x", Ipv4::new(256), Ipv4::new(256))?, 24);

@@ -1,5 +1,5 @@
 // Rows of a plan text that are no declarations, byte by byte and by their shape.
-use crate::telling::{Ending, FINE, held, loaded, unwritten};
+use crate::telling::{Ending, FINE, held, loaded, refuses_each, unwritten};
 use plan::Plan;
 use std::test::Fail;
 
@@ -7,17 +7,17 @@ use std::test::Fail;
 fn a_byte_alone_is_a_comment_or_an_empty_row_or_a_fault(rt: HostRuntime) -> Result<(), Fail> {
     let mut rows = [unwritten(); 4];
     let mut plan = Plan::open(&mut rows);
-    let before = held(&plan)?;
+    let before = held(rt.alloc(), &plan)?;
     for byte in 0..=255u8 {
         let passed = byte == b'#' || byte == b'\n';
-        let wanted = if passed { FINE } else { (2, 17, 1, 0) };
+        let wanted = if passed { FINE } else { NO_ROW };
         assert_eq!(rt; loaded(&mut plan, &[byte]), wanted);
     }
-    assert_eq!(rt; held(&plan)?, before);
+    assert_eq!(rt; held(rt.alloc(), &plan)?, before);
     Ok(())
 }
 
-const NO_ROW: Ending = (2, 17, 1, 0);
+const NO_ROW: Ending = Err((2, 17, 1, 0));
 
 const SHAPES: [(&[u8], Ending); 15] = [
     (b",", NO_ROW),
@@ -34,17 +34,12 @@ const SHAPES: [(&[u8], Ending); 15] = [
     (b" net,a,0.0.0.1,0.0.0.2", NO_ROW),
     (b"net\r,a,0.0.0.1,0.0.0.2", NO_ROW),
     (b"\r\nnet,a,0.0.0.1,0.0.0.2\n", NO_ROW),
-    (b"net,a,0.0.0.1,0.0.0.2\r\n", (1, 18, 1, 4)),
+    (b"net,a,0.0.0.1,0.0.0.2\r\n", Err((1, 18, 1, 4))),
 ];
 
 #[test]
 fn a_row_of_another_shape_is_refused(rt: HostRuntime) -> Result<(), Fail> {
     let mut rows = [unwritten(); 4];
     let mut plan = Plan::open(&mut rows);
-    let before = held(&plan)?;
-    for case in SHAPES {
-        assert_eq!(rt; loaded(&mut plan, case.0), case.1);
-    }
-    assert_eq!(rt; held(&plan)?, before);
-    Ok(())
+    refuses_each(rt.alloc(), &mut plan, &SHAPES)
 }
