@@ -7,6 +7,7 @@ use crate::{Labelling, Point, Run};
 
 // The label of `from`, and the last point up to which it holds without a break.
 fn stretch<F: Labelling>(labelling: &F, from: &F::Spot) -> (F::Tag, F::Spot)
+    requires { F.Labelling.ready labelling.now }
     ensures { Stretch F.Spot.Point.size (F.Labelling.label labelling.now) result.0 (F.Spot.Point.place from.now) (F.Spot.Point.place result.1) }
 {
     let (label, first_end) = labelling.piece(from);
@@ -24,6 +25,7 @@ fn stretch<F: Labelling>(labelling: &F, from: &F::Spot) -> (F::Tag, F::Spot)
 
 // How many runs the line of the labelling has, if they are at most `most`.
 pub fn needed<F: Labelling>(labelling: &F, most: usize) -> Option<usize>
+    requires { F.Labelling.ready labelling.now }
     ensures { Counted F.Tag.PartialEq.eq F.Spot.Point.size (F.Labelling.label labelling.now) most result }
 {
     let mut from = F::Spot::first();
@@ -39,7 +41,8 @@ pub fn needed<F: Labelling>(labelling: &F, most: usize) -> Option<usize>
 
 // Writes the line of the labelling, for which there are rows enough, into the first rows, and says how many they are.
 pub fn draw<F: Labelling>(rows: &mut [Run<F::Spot, F::Tag>], labelling: &F) -> usize
-    requires { runs_needed F.Tag.PartialEq.eq F.Spot.Point.size (F.Labelling.label labelling.now) ≤ length rows.old }
+    requires ready { F.Labelling.ready labelling.now }
+    requires fits { runs_needed F.Tag.PartialEq.eq F.Spot.Point.size (F.Labelling.label labelling.now) ≤ length rows.old }
     ensures count { result ≡ runs_needed F.Tag.PartialEq.eq F.Spot.Point.size (F.Labelling.label labelling.now) }
     ensures drawn { Drawn F.Spot.Point.place F.Spot.Point.size (F.Labelling.label labelling.now) result rows.old rows.new }
 {
@@ -61,7 +64,8 @@ pub fn draw_over<F: Labelling>(
     labelling: &F,
     blank: Run<F::Spot, F::Tag>,
 )
-    requires { runs_needed F.Tag.PartialEq.eq F.Spot.Point.size (F.Labelling.label labelling.now) ≤ length rows.old }
+    requires ready { F.Labelling.ready labelling.now }
+    requires fits { runs_needed F.Tag.PartialEq.eq F.Spot.Point.size (F.Labelling.label labelling.now) ≤ length rows.old }
     ensures { Listed F.Spot.Point.place F.Spot.Point.size blank (F.Labelling.label labelling.now) (runs_needed F.Tag.PartialEq.eq F.Spot.Point.size (F.Labelling.label labelling.now)) rows.new }
 {
     let count = draw(rows, labelling);
@@ -74,6 +78,7 @@ pub fn redraw<F: Labelling>(
     labelling: &F,
     blank: Run<F::Spot, F::Tag>,
 ) -> Option<usize>
+    requires { F.Labelling.ready labelling.now }
     ensures { Redrawn F.Spot.Point.place F.Spot.Point.size F.Tag.PartialEq.eq blank (F.Labelling.label labelling.now) rows.old rows.new result }
 {
     let count = needed(labelling, rows.len())?;

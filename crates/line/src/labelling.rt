@@ -4,7 +4,7 @@ ghost use Rattle.line.specs.Line.{Keeps};
 
 use crate::{Label, Point};
 
-// What gives every place a label. `label` is the labelling; what has to hold so that it can be told, a type says in its ghost fields.
+// What gives every place a label. `label` is the labelling, and `ready` says that it can be told, which of some kinds only some values can.
 pub trait Labelling {
     type Spot: Point;
 
@@ -12,7 +12,10 @@ pub trait Labelling {
 
     ghost label: { Self → ℕ → Self.Tag };
 
+    ghost ready: { Self → Type 0 };
+
     // The label of `from`, and a point from there on up to which the label holds.
     fn piece(&self, from: &Self::Spot) -> (Self::Tag, Self::Spot)
+        requires { ready self.now }
         ensures { Keeps (label self.now) result.0 (Self.Spot.Point.place from.now) (Self.Spot.Point.place result.1) };
 }

@@ -1,3 +1,4 @@
 pub mod Parts
 pub mod Ending
 pub mod Printing
+pub mod Short

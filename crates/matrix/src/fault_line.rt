@@ -1,10 +1,11 @@
 // The line that tells a fault.
-ghost use Rattle.std.specs.Prelude.{◌≡◌, ◌∷◌, decimal, MatchResult};
+ghost use Rattle.std.specs.Prelude.{◌≡◌, ◌≤◌, ◌∷◌, length, decimal, MatchResult};
+ghost use Rattle.text.specs.Buffers.{put};
 ghost use Rattle.planwrite.specs.Writes.{Wrote, LacksRoom};
 ghost use Rattle.matrix.specs.Lines.{word_of, fault_line};
 
 use refusal::{Fault, Refusal};
-use text::{Room, Sink, Writer, put_number};
+use text::{Sink, Writer, put_number};
 
 // The text that a fault is in.
 #[derive(Clone, Copy)]
@@ -48,14 +49,33 @@ fn put_line<S: Sink>(kind: TextKind, fault: &Fault, sink: &mut S)
     sink.put_byte(b'\n');
 }
 
-// Writes the fault line, and says how many bytes it is.
+// The bytes that a fault line has at most: `fault,`, a word of 5, four times a comma with 20 digits, and byte 10.
+const LONGEST: usize = 96;
+
+// Writes the fault line at the start of a buffer that is long enough for any, and says how many bytes it is.
+fn write_line(kind: TextKind, fault: &Fault, out: &mut [u8]) -> usize
+    requires { LONGEST ≤ length out.old }
+    ensures end { result ≡ length (fault_line kind fault.now) }
+    ensures short { result ≤ LONGEST }
+    ensures wrote { out.new ≡ put out.old 0 (fault_line kind fault.now) }
+{
+    // So that both are known to have at most 20 digits.
+    prove!(fault.line() <= usize::MAX);
+    prove!(fault.field() <= usize::MAX);
+    let mut writer = Writer::new(out);
+    put_line(kind, fault, &mut writer);
+    writer.end()
+}
+
+// Writes the fault line, and says how many bytes it is. The line is written into memory of its own and copied: a walk that measures it and a second that writes it take longer.
 pub fn write_fault(kind: TextKind, fault: &Fault, out: &mut [u8]) -> Result<usize, Refusal>
     ensures { MatchResult result (Wrote (fault_line kind fault.now) out.old out.new) (LacksRoom (fault_line kind fault.now) out.old out.new) }
 {
-    let mut room = Room::new(out.len());
-    put_line(kind, fault, &mut room);
-    room.left().ok_or(Refusal::BufferTooShort)?;
-    let mut writer = Writer::new(out);
-    put_line(kind, fault, &mut writer);
-    Ok(writer.end())
+    let mut line = [0; LONGEST];
+    let end = write_line(kind, fault, &mut line);
+    if end > out.len() {
+        return Err(Refusal::BufferTooShort);
+    }
+    out[..end].copy_from_slice(&line[..end]);
+    Ok(end)
 }

@@ -31,6 +31,10 @@ module _ {S : Type 0} {has_room : S → List ℕ → Type 0} {takes : S → List
       room = turns.second (subst (has_room after) e b.room) took;
     }
 
+    -- where what is left leaves the sink as it is, all is taken
+    pub all_spent : takes after left after → takes before all after
+    all_spent stays = subst (λ q. takes before q after) b.whole (turns.both b.took stays)
+
     -- all is taken
     pub all_taken : left ≡ [] → takes before all after
     all_taken e = subst (λ q. takes before q after) (sym (append-nil b.front) ∙ (ap (λ (q : List ℕ). b.front ++ q) (sym e) ∙ b.whole)) b.took

@@ -1,4 +1,4 @@
-// The rows of a plan text, put one after another.
+// The rows of a plan text, put one after another, up to one that the sink has no room for.
 ghost use Rattle.names.specs.Texts.{texts};
 ghost use Rattle.planwrite.specs.Written.{row_of, net_text, plan_text};
 
@@ -29,6 +29,9 @@ fn write_net<A: Address, S: Sink>(number: u8, name: &[u8], runs: &[Run<A, u8>], 
     for run in runs {
         if run.label == number {
             write_row(name, run, sink);
+            if sink.is_spent() {
+                return;
+            }
         }
     }
 }
@@ -40,5 +43,8 @@ pub(crate) fn write_nets<A: Address, S: Sink>(names: &Names, runs: &[Run<A, u8>]
 {
     for (i, name) in names.as_slice().iter().enumerate() {
         write_net(i as u8 + 1, name.text(), runs, sink);
+        if sink.is_spent() {
+            return;
+        }
     }
 }

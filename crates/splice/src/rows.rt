@@ -1,8 +1,10 @@
 // Making a change in the rows of a table: the tail moves once, and up to three rows are written.
-ghost use Rattle.std.specs.Prelude.{◌≡◌, ℕ, ◌+◌, ◌≤◌, ◌++◌, length, take, drop, nat_le};
+ghost use Rattle.std.specs.Prelude.{◌≡◌, ℕ, ◌+◌, ◌-◌, ◌≤◌, ◌++◌, length, take, drop, nat_le};
+ghost use Rattle.std.specs.List.{SameBelow, SameFrom, CopiedTo};
 ghost use Rattle.splice.specs.Changes.{listed, news, changed, count_after, Apt};
 
 use crate::Change;
+use std::ops::Range;
 
 impl<T: Copy> Change<T> {
     // How many rows the change brings in.
@@ -33,7 +35,7 @@ impl<T: Copy> Change<T> {
         ensures rest { (n : ℕ) → count ≤ n → result ≤ n → drop n rows.new ≡ drop n rows.old }
     {
         let tail = self.from + self.amount();
-        rows.copy_within(self.to..count, tail);
+        move_tail(rows, self.to..count, tail);
         let first = put(rows, self.from, self.before);
         let second = put(rows, first, Some(self.middle));
         let _ = put(rows, second, self.after);
@@ -54,5 +56,19 @@ fn put<T: Copy>(rows: &mut [T], i: usize, x: Option<T>) -> usize
             i + 1
         }
         None => i,
+    }
+}
+
+// Brings the rows of a range to `tail`. Where they stand there already they are left: `copy_within` would write each onto itself, and most declarations that extend a run leave all rows after it in their places.
+fn move_tail<T: Copy>(rows: &mut [T], range: Range<usize>, tail: usize)
+    requires ordered { range.start ≤ range.end }
+    requires within { range.end ≤ length rows.old }
+    requires room { tail + (range.end - range.start) ≤ length rows.old }
+    ensures kept { SameBelow rows.old rows.new tail }
+    ensures moved { CopiedTo rows.old rows.new range.start tail (range.end - range.start) }
+    ensures rest { SameFrom rows.old rows.new (tail + (range.end - range.start)) }
+{
+    if range.start != tail {
+        rows.copy_within(range, tail);
     }
 }

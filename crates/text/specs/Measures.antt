@@ -1,5 +1,5 @@
 -- Texts that take from a room one after another.
-use Rattle.std.specs.Prelude.{◌≡◌, ℕ, ◌+◌, length, refl, Option, Some, None}
+use Rattle.std.specs.Prelude.{◌≡◌, ℕ, ◌+◌, length, refl, Option, Some, None, not, is_some, true}
 use Rattle.std.proofs.Common.{sym, ap, ◌∙◌, arith}
 use Rattle.std.proofs.lemmas.Grind.{common_steps}
 use Rattle.std.proofs.lemmas.List.{length-append}
@@ -23,3 +23,8 @@ leaves_in_turn = record {
   both = λ {s} {r} {q} {t} {u} one two.
       two ∙ (ap (left_by (length u)) one ∙ (by_both s.left (length t) (length u) ∙ ap (λ (n : ℕ). left_by n s.left) (sym (length-append t u))));
 }
+
+-- a room that is too small stays so, whatever takes from it
+pub nothing_leaves : (o : Option ℕ) (n : ℕ) → not (is_some o) ≡ true → o ≡ left_by n o
+nothing_leaves None n h = refl
+nothing_leaves (Some k) n h = let z : ◌≡◌ {A = ℕ} 0 1 = cc in absurd (omega arith)

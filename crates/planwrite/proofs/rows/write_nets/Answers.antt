@@ -5,7 +5,7 @@ use Rattle.line.specs.declared.run.Run.{Run}
 use Rattle.names.specs.declared.name.Name.{Name}
 use Rattle.names.specs.Texts.{text_of, texts}
 use Rattle.planwrite.specs.Written.{net_text, nets_text}
-use Rattle.planwrite.proofs.Writing.{begin, part_fits, part_taken, nets_step}
+use Rattle.planwrite.proofs.Writing.{begin, part_fits, part_taken, all_spent, nets_step}
 use Rattle.planwrite.proofs.rows.write_nets.Goals as goal
 
 -- the networks from that of the name at i on
@@ -26,6 +26,17 @@ write_net-requires g c =
     let i = c.loop-i.i in
     part_fits g.met.S.Sink.laws c.loop-i.invariant (nets_text text (i + 1 + 1) (drop (i + 1) names) c.args.runs.now)
     (step text names c.args.runs.now _ c.name-item.result i c.text.result.now c.as_slice-name-items.ensures c.loop-i-test.true c.name-item.is c.text.ensures)
+
+pub returns-then-is_spent : goal.returns-then-is_spent
+returns-then-is_spent g c =
+    let text = g.A.Address.text in
+    let names = texts c.args.names.now in
+    let i = c.loop-i.i in
+    all_spent g.met.S.Sink.laws
+    (part_taken g.met.S.Sink.laws c.loop-i.invariant
+    (step text names c.args.runs.now _ c.name-item.result i c.text.result.now c.as_slice-name-items.ensures c.loop-i-test.true c.name-item.is c.text.ensures)
+    c.write_net.ensures)
+    (g.met.S.Sink.stays _ (nets_text text (i + 1 + 1) (drop (i + 1) names) c.args.runs.now) (sym c.is_spent.ensures ∙ c.if-is_spent.true))
 
 pub loop-i-preserved : goal.loop-i-preserved
 loop-i-preserved g c =

@@ -24,7 +24,7 @@ draw_over-requires c =
     let inside = strip_inside s.networks s.depth pair.from pair.to c.requires.inside.0 c.requires.inside.1 in
     let len = length-between s.rows.now c.start_of-start.result (c.start_of-start.result + s.depth) (omega arith) in
     let needs = needs_copied c.args.rules.now c.new.result.rules.now pair c.new.result.pair c.new.ensures.rules c.new.ensures.pair in
-    omega arith
+    record { ready = tt; fits = omega arith }
 
 pub returns-clause-drawn : goal.returns-clause-drawn
 returns-clause-drawn c =

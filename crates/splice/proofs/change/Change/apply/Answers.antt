@@ -13,18 +13,18 @@ returns g c =
     let n = c.amount.ensures.is in
     let a = c.requires.apt.ordered in
     let b = c.requires.apt.within in
-    let m = c.copy_within.ensures in
+    let m = c.move_tail.ensures in
     let u = c.put-first.ensures in
     let v = c.put-second.ensures in
     let w = c.put.ensures in
     record {
       size = omega arith;
-      list = replaced c.args.rows.now c.copy_within.new.self c.args.count s.from s.to _ _ m.len
+      list = replaced c.args.rows.now c.move_tail.new.rows c.args.count s.from s.to _ _ c.move_tail.auto.rows
           (omega arith) b c.requires.fits (omega arith) refl (omega arith)
-          m.by_index.1 m.by_index.0
+          m.kept m.moved
           c.put-first.new.rows c.put-second.new.rows c.put.new.rows xs (s.middle ∷ []) zs _ _ _
           u.next u.front u.rest v.next v.front v.rest w.next w.front w.rest (omega arith);
       rest = λ n a b.
           w.rest n (omega arith) ∙ v.rest n (omega arith) ∙ u.rest n (omega arith)
-          ∙ rest_same c.args.rows.now c.copy_within.new.self n m.len (λ k z h. m.by_index.2 k z (omega arith));
+          ∙ rest_same c.args.rows.now c.move_tail.new.rows n c.move_tail.auto.rows (λ k z h. m.rest k z (omega arith));
     }
