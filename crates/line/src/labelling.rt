@@ -4,7 +4,7 @@ ghost use Rattle.line.specs.Line.{Keeps};
 
 use crate::{Label, Point};
 
-// What gives every place a label. `label` is the labelling, and `ready` says that it can be told, which of some kinds only some values can.
+// What gives every place a label. `label` is the labelling, and `ready` says that it can be told: every value can, unless a kind says of which that holds.
 pub trait Labelling {
     type Spot: Point;
 
@@ -12,7 +12,7 @@ pub trait Labelling {
 
     ghost label: { Self → ℕ → Self.Tag };
 
-    ghost ready: { Self → Type 0 };
+    ghost ready: { Self → Type 0 } = { λ _. Unit {0} };
 
     // The label of `from`, and a point from there on up to which the label holds.
     fn piece(&self, from: &Self::Spot) -> (Self::Tag, Self::Spot)

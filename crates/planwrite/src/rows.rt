@@ -5,7 +5,7 @@ ghost use Rattle.planwrite.specs.Written.{row_of, net_text, plan_text};
 use address::Address;
 use line::Run;
 use names::Names;
-use text::Sink;
+use text::{Sink, Spendable};
 
 // Puts the row of a run.
 fn write_row<A: Address, S: Sink>(name: &[u8], run: &Run<A, u8>, sink: &mut S)
@@ -22,7 +22,7 @@ fn write_row<A: Address, S: Sink>(name: &[u8], run: &Run<A, u8>, sink: &mut S)
 }
 
 // Puts the rows of the network with this number and name.
-fn write_net<A: Address, S: Sink>(number: u8, name: &[u8], runs: &[Run<A, u8>], sink: &mut S)
+fn write_net<A: Address, S: Spendable>(number: u8, name: &[u8], runs: &[Run<A, u8>], sink: &mut S)
     requires { S.Sink.has_room sink.old (net_text A.Address.text number name.now runs.now) }
     ensures { S.Sink.takes sink.old (net_text A.Address.text number name.now runs.now) sink.new }
 {
@@ -37,7 +37,7 @@ fn write_net<A: Address, S: Sink>(number: u8, name: &[u8], runs: &[Run<A, u8>], 
 }
 
 // Puts the rows of all networks.
-pub(crate) fn write_nets<A: Address, S: Sink>(names: &Names, runs: &[Run<A, u8>], sink: &mut S)
+pub(crate) fn write_nets<A: Address, S: Spendable>(names: &Names, runs: &[Run<A, u8>], sink: &mut S)
     requires { S.Sink.has_room sink.old (plan_text A.Address.text (texts names.now) runs.now) }
     ensures { S.Sink.takes sink.old (plan_text A.Address.text (texts names.now) runs.now) sink.new }
 {

@@ -10,6 +10,7 @@ mod room;
 mod row;
 mod rows;
 mod sink;
+mod spendable;
 #[cfg(test)]
 mod tests;
 mod writer;
@@ -22,4 +23,5 @@ pub use room::Room;
 pub use row::Row;
 pub use rows::Rows;
 pub use sink::Sink;
+pub use spendable::Spendable;
 pub use writer::Writer;

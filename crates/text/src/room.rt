@@ -3,7 +3,7 @@ ghost use Rattle.std.specs.Prelude.{◌≡◌, Some, length, not, is_some};
 ghost use Rattle.text.specs.Rooms.{AnyText, Leaves};
 ghost use Rattle.text.specs.Measures.{leaves_in_turn, nothing_leaves};
 
-use crate::Sink;
+use crate::{Sink, Spendable};
 
 // What the texts leave of a room of so many bytes; none where it is too small for them.
 #[derive(Clone, Copy)]
@@ -37,13 +37,15 @@ impl Sink for Room {
         *left = left.and_then(|bytes| bytes.checked_sub(text.len()));
     }
 
+    ghost laws = { leaves_in_turn };
+}
+
+impl Spendable for Room {
     ghost spent = { λ r. not (is_some r.left) };
 
     fn is_spent(&self) -> bool {
         matches!(self, Room { left: None })
     }
-
-    ghost laws = { leaves_in_turn };
 
     ghost stays = { λ r text. nothing_leaves r.left (length text) };
 }

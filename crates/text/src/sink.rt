@@ -1,5 +1,5 @@
 // What takes texts one after another.
-ghost use Rattle.std.specs.Prelude.{◌≡◌, ℕ, Bool, true, List, [], ◌∷◌};
+ghost use Rattle.std.specs.Prelude.{ℕ, List, [], ◌∷◌};
 ghost use Rattle.text.specs.Turns.{InTurn};
 
 // A place that texts go to: a buffer that they are written into, or a room that they are held to.
@@ -23,16 +23,6 @@ pub trait Sink {
         self.put(&[byte]);
     }
 
-    // the sink is known to stay as it is, whatever it takes
-    ghost spent: { Self → Bool };
-
-    // Whether the sink is known to stay as it is, whatever it takes, so that a walk over texts may end here.
-    fn is_spent(&self) -> bool
-        ensures { result ≡ spent self.now };
-
     // what holds of texts that are taken one after another
     ghost laws: { InTurn has_room takes };
-
-    // a sink that is spent stays as it is, whatever it takes
-    ghost stays: { (s : Self) (text : List ℕ) → spent s ≡ true → takes s text s };
 }

@@ -1,5 +1,5 @@
 // Rows, fields and numbers by example.
-use crate::{Fields, Room, Rows, Sink, Writer, put_number, read_number};
+use crate::{Fields, Room, Rows, Sink, Spendable, Writer, put_number, read_number};
 use std::test::Fail;
 
 #[test]

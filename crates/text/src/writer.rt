@@ -3,7 +3,7 @@ ghost use Rattle.std.specs.Prelude.{◌≡◌, false};
 ghost use Rattle.text.specs.Buffers.{HasRoom, Writes};
 ghost use Rattle.text.specs.Writers.{writes_in_turn, never_spent};
 
-use crate::Sink;
+use crate::{Sink, Spendable};
 
 // Writes at the place `at` of the buffer, behind what it wrote before.
 #[derive(Drop)]
@@ -58,13 +58,15 @@ impl Sink for Writer<'_> {
         *at += 1;
     }
 
+    ghost laws = { writes_in_turn };
+}
+
+impl Spendable for Writer<'_> {
     ghost spent = { λ _. false };
 
     fn is_spent(&self) -> bool {
         false
     }
-
-    ghost laws = { writes_in_turn };
 
     ghost stays = { λ w text. never_spent w text };
 }

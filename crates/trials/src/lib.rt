@@ -8,6 +8,8 @@ mod lines;
 #[cfg(test)]
 mod looks;
 #[cfg(test)]
+mod own;
+#[cfg(test)]
 mod ranges;
 #[cfg(test)]
 mod room;

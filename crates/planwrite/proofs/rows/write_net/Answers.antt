@@ -23,7 +23,7 @@ returns-then-is_spent g c =
     let i = c.loop-run.run-index in
     let here = net_here text n name runs i c.run-item.result c.loop-run-test.true c.run-item.is c.if-run-number.true in
     all_spent g.met.S.Sink.laws (part_taken g.met.S.Sink.laws c.loop-run.invariant here c.write_row.ensures)
-    (g.met.S.Sink.stays _ (net_text text n name (drop (i + 1) runs)) (sym c.is_spent.ensures ∙ c.if-is_spent.true))
+    (g.met.S.Spendable.stays _ (net_text text n name (drop (i + 1) runs)) (sym c.is_spent.ensures ∙ c.if-is_spent.true))
 
 pub loop-run-preserved : goal.loop-run-preserved
 loop-run-preserved g c =

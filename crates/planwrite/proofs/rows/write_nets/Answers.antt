@@ -36,7 +36,7 @@ returns-then-is_spent g c =
     (part_taken g.met.S.Sink.laws c.loop-i.invariant
     (step text names c.args.runs.now _ c.name-item.result i c.text.result.now c.as_slice-name-items.ensures c.loop-i-test.true c.name-item.is c.text.ensures)
     c.write_net.ensures)
-    (g.met.S.Sink.stays _ (nets_text text (i + 1 + 1) (drop (i + 1) names) c.args.runs.now) (sym c.is_spent.ensures ∙ c.if-is_spent.true))
+    (g.met.S.Spendable.stays _ (nets_text text (i + 1 + 1) (drop (i + 1) names) c.args.runs.now) (sym c.is_spent.ensures ∙ c.if-is_spent.true))
 
 pub loop-i-preserved : goal.loop-i-preserved
 loop-i-preserved g c =
